@@ -1,0 +1,59 @@
+// A cube: the variables that are fixed, and their values.
+ghost use mathlib.Core.Path.{_≡_};
+ghost use mathlib.Core.Bool.{true};
+ghost use Rattle.words.specs.Mask.{agree};
+ghost use Rattle.cube.specs.Cube.{Fixed, Freed, Made};
+
+pub struct Cube {
+    pub mask: u32,
+    pub values: u32,
+}
+
+impl Cube {
+    // Fixes nothing.
+    pub const UNFIXED: Cube = Cube { mask: 0, values: 0 };
+
+    // The cube that fixes the mask's variables at their values in the word; values outside the mask are dropped.
+    pub fn of(mask: u32, values: u32) -> Cube
+        ensures { λ r. ⌜ Made mask values (r .mask) (r .values) ⌝ }
+    {
+        Cube {
+            mask,
+            values: values & mask,
+        }
+    }
+
+    // The same cube with the variable fixed at the value, which replaces an old one; unchanged past the last variable.
+    pub fn fix(self, variable: u8, value: bool) -> Cube
+        ensures { λ r. ⌜ Fixed 32 (self .mask) (self .values) variable value (r .mask) (r .values) ⌝ }
+    {
+        Cube {
+            mask: words::w32::place(self.mask, variable, true),
+            values: words::w32::place(self.values, variable, value),
+        }
+    }
+
+    // The same cube with the variable not fixed; unchanged past the last variable.
+    pub fn free(self, variable: u8) -> Cube
+        ensures { λ r. ⌜ Freed 32 (self .mask) (self .values) variable (r .mask) (r .values) ⌝ }
+    {
+        Cube {
+            mask: words::w32::place(self.mask, variable, false),
+            values: words::w32::place(self.values, variable, false),
+        }
+    }
+
+    // Whether the setting's bits in the mask are exactly the values.
+    pub fn agrees(self, setting: u32) -> bool
+        ensures { λ r. ⌜ r ≡ agree (self .mask) (self .values) setting ⌝ }
+    {
+        words::w32::agrees(self.mask, self.values, setting)
+    }
+}
+
+// `UNFIXED` agrees with every setting.
+fn unfixed_agrees(setting: u32) -> bool
+    ensures { λ r. ⌜ r ≡ true ⌝ }
+{
+    Cube::UNFIXED.agrees(setting)
+}

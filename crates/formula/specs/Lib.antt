@@ -1,0 +1,10 @@
+pub mod Assignment
+pub mod Formula
+pub mod Reason
+pub mod Least
+pub mod Ask
+pub mod FreeMask
+pub mod ReasonWord
+pub mod Why
+pub mod Compute
+pub mod Example

@@ -1,0 +1,1 @@
+// Quantified Boolean formulas: what they mean, and what is known of them. Definitions and laws only (specs/).

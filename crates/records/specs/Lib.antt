@@ -1,0 +1,5 @@
+pub mod Table
+pub mod Put
+pub mod Search
+pub mod Find
+pub mod Locate
