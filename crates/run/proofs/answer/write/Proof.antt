@@ -1,0 +1,83 @@
+-- `run::answer::write` meets its contract.
+use borrow.Author.Needs.{needs}
+use native.Mathlib.Omega.{arith}
+use lib.ListN.{length-set}
+use Rattle.session.specs.Model.{bytesOf, answerBytes}
+use Rattle.run.specs.Written.{six-written}
+use Rattle.run.proofs.answer.write.Statement.{statement}
+use Rattle.run.proofs.answer.write.Tie as tie
+
+byte-requires : tie.Need-byte-requires
+byte-requires c κs = search needs
+
+byte-requires-2 : tie.Need-byte-requires-2
+byte-requires-2 c κs = search needs
+
+byte-requires-3 : tie.Need-byte-requires-3
+byte-requires-3 c κs = search needs
+
+byte-requires-4 : tie.Need-byte-requires-4
+byte-requires-4 c κs = search needs
+
+slice-write-answers : tie.Need-slice-write-answers
+slice-write-answers c = search needs
+
+add-answers : tie.Need-add-answers
+add-answers c = search needs
+
+slice-write-answers-2 : tie.Need-slice-write-answers-2
+slice-write-answers-2 c = simp length-set (omega (arith, c .before .before .before .before .before .pre))
+
+add-answers-2 : tie.Need-add-answers-2
+add-answers-2 c = search needs
+
+slice-write-answers-3 : tie.Need-slice-write-answers-3
+slice-write-answers-3 c = simp length-set (omega (arith, c .before .before .before .before .before .pre))
+
+add-answers-3 : tie.Need-add-answers-3
+add-answers-3 c = search needs
+
+slice-write-answers-4 : tie.Need-slice-write-answers-4
+slice-write-answers-4 c = simp length-set (omega (arith, c .before .before .before .before .before .pre))
+
+add-answers-4 : tie.Need-add-answers-4
+add-answers-4 c = search needs
+
+slice-write-answers-5 : tie.Need-slice-write-answers-5
+slice-write-answers-5 c = simp length-set (omega (arith, c .before .before .before .before .before .pre))
+
+add-answers-5 : tie.Need-add-answers-5
+add-answers-5 c = search needs
+
+slice-write-answers-6 : tie.Need-slice-write-answers-6
+slice-write-answers-6 c = simp length-set (omega (arith, c .before .before .before .before .before .pre))
+
+same-length : tie.Need-same-length
+same-length c = search needs
+
+returns : tie.Need-returns
+unfolding answerBytes bytesOf
+returns c =
+    rw (c .byte4 .ensures, c .before .byte3 .ensures, c .before .before .byte2 .ensures, c .before .before .before .byte .ensures) (six-written _ _ _ _ _ _ _ _ (c .before .before .before .before .before .pre))
+
+pub write-spec : {M : Type 1} → statement M
+write-spec =
+    tie.close
+    (tie.spec
+    byte-requires
+    byte-requires-2
+    byte-requires-3
+    byte-requires-4
+    slice-write-answers
+    add-answers
+    slice-write-answers-2
+    add-answers-2
+    slice-write-answers-3
+    add-answers-3
+    slice-write-answers-4
+    add-answers-4
+    slice-write-answers-5
+    add-answers-5
+    slice-write-answers-6
+    same-length
+    returns)

@@ -1,0 +1,44 @@
+-- `run::run` meets its contract.
+use borrow.Author.Needs.{needs}
+use Rattle.run.specs.Progress.{run-room, run-checked, run-accepted, run-refused}
+use Rattle.run.proofs.run.Statement.{statement}
+use Rattle.run.proofs.run.Tie as tie
+
+check-requires : tie.Need-check-requires
+check-requires c κs = search needs
+
+returns : tie.Need-returns
+returns c = let a = c .before .before .before .before .before .before .before .before .args in run-refused (a .sheet .now) (a .script .now) (a .answers .now) (c .before .before .check .ensures) (c .if1 .taken)
+
+run-lines-requires : tie.Need-run-lines-requires
+run-lines-requires c κs =
+    let a = c .before .before .before .before .before .before .before .before .before .before .before .args in
+    let k = c .before .before .before .before .before .check .ensures in
+    let z = c .before .before .before .if1 .left in
+    (run-checked (a .sheet .now) (a .script .now) (a .answers .now) k z, run-room (a .sheet .now) (a .script .now) (a .answers .now) k z)
+
+same-length : tie.Need-same-length
+same-length c = search needs
+
+same-length-2 : tie.Need-same-length-2
+same-length-2 c = search needs
+
+same-length-3 : tie.Need-same-length-3
+same-length-3 c = search needs
+
+returns-2 : tie.Need-returns-2
+returns-2 c =
+    let a = c .before .before .before .before .before .before .before .before .before .before .before .before .before .before .before .before .before .before .args in
+    run-accepted (a .sheet .now) (a .script .now) (a .answers .now) (c .before .before .before .before .before .before .before .before .before .before .before .before .check .ensures) (c .before .before .before .before .before .before .before .before .before .before .if1 .left) (c .before .before .before .before .before .before .run-lines .ensures)
+
+pub run-spec : {M : Type 1} → statement M
+run-spec =
+    tie.close
+    (tie.spec
+    check-requires
+    returns
+    run-lines-requires
+    same-length
+    same-length-2
+    same-length-3
+    returns-2)

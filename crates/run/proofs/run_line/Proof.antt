@@ -1,0 +1,75 @@
+-- `run::run_line` meets its contract.
+use borrow.Author.Needs.{needs}
+use Rattle.run.proofs.run_line.Statement.{statement}
+use Rattle.run.proofs.run_line.Tie as tie
+
+mul-at : tie.Need-mul-at
+mul-at c = search needs
+
+mul-place : tie.Need-mul-place
+mul-place c = search needs
+
+shared-slice-read-step : tie.Need-shared-slice-read-step
+shared-slice-read-step c = search needs
+
+add-step : tie.Need-add-step
+add-step c = search needs
+
+shared-slice-read-step-2 : tie.Need-shared-slice-read-step-2
+shared-slice-read-step-2 c = search needs
+
+add-step-2 : tie.Need-add-step-2
+add-step-2 c = search needs
+
+shared-slice-read-step-3 : tie.Need-shared-slice-read-step-3
+shared-slice-read-step-3 c = search needs
+
+add-step-3 : tie.Need-add-step-3
+add-step-3 c = search needs
+
+shared-slice-read-step-4 : tie.Need-shared-slice-read-step-4
+shared-slice-read-step-4 c = search needs
+
+step-requires : tie.Need-step-requires
+step-requires c κs = search needs
+
+write-requires : tie.Need-write-requires
+write-requires c κs = search needs
+
+same-length : tie.Need-same-length
+same-length c = search needs
+
+same-length-2 : tie.Need-same-length-2
+same-length-2 c = search needs
+
+same-length-3 : tie.Need-same-length-3
+same-length-3 c = search needs
+
+returns : tie.Need-returns
+returns c =
+    let r = c .before .before .before .before .before .before .before .before .before .before .step .result .answer in
+    record {
+      answer = record { number = r .number; v = r .v; word = r .word };
+      step = c .before .before .before .before .before .before .before .before .before .before .step .ensures;
+      put = c .before .before .before .write .ensures;
+    }
+
+pub run-line-spec : {M : Type 1} → statement M
+run-line-spec =
+    tie.close
+    (tie.spec
+    mul-at
+    mul-place
+    shared-slice-read-step
+    add-step
+    shared-slice-read-step-2
+    add-step-2
+    shared-slice-read-step-3
+    add-step-3
+    shared-slice-read-step-4
+    step-requires
+    write-requires
+    same-length
+    same-length-2
+    same-length-3
+    returns)

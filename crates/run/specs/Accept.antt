@@ -1,0 +1,109 @@
+-- A run is accepted exactly if the rules for its inputs are kept. Assumes nothing.
+use Prim.Native.Nat.{ℕ, _*_, _%_, _≤_, _<_}
+use native.Mathlib.Omega.{arith}
+use mathlib.Core.Path.{_≡_, sym, ap, subst, _∙_}
+use mathlib.Core.Bool.{Bool, true, false, not, _||_}
+use mathlib.Core.Logic.{_↔_}
+use mathlib.Core.List.{List, _++_, append-assoc}
+use lib.ListN.{length}
+use lib.Dec.{eqb, ltb}
+use borrow.Author.Tests.{eq-eqb, eqb-true, le-ltb, ltb-false}
+use Rattle.words.specs.Logic.{by-bool, or-false, not-false}
+use Rattle.sheet.specs.Cause.{Refusal, accepted, someHolds, Numbered, Foremost, some-append, numbered-append, none-first, first-none, first-foremost, foremost-first}
+use Rattle.sheet.specs.Rules.{lengthCauses, sizeCauses, frameCauses}
+use Rattle.sheet.specs.RuleLaws.{frame-numbered}
+use Rattle.sheet.specs.Keeps.{Keeps}
+use Rattle.sheet.specs.Accepted.{none-keeps, keeps-none}
+use Rattle.session.specs.Model.{answerLength, lines}
+use Rattle.session.specs.Script.{Whole}
+use Rattle.run.specs.Run.{mostLines, scriptCauses, roomCauses, causes, refusal}
+
+-- document 01's rules for a run, one field a sentence, in no order
+pub record Proper (sheet script : List ℕ) (bytes : ℕ) : Type 0 where
+  -- the sheet keeps its rules
+  pub sheet-kept : Keeps sheet
+  -- a script is 0 to 1,000 frames of four bytes
+  pub whole : Whole script
+  pub few : lines script ≤ mostLines
+  -- the answer buffer has room for six bytes a line
+  pub room : answerLength * lines script ≤ bytes
+
+-- ---- each rule and its test
+
+script-rules : (s : List ℕ) → someHolds (scriptCauses s) ≡ false → Whole s × (lines s ≤ mostLines)
+unfolding someHolds scriptCauses
+script-rules s e =
+    let p = or-false (not (eqb (length s % 4) 0)) (ltb mostLines (lines s) || false) e in
+    let q = or-false (ltb mostLines (lines s)) false (p .1) in
+    (eqb-true (length s % 4) 0 (not-false (eqb (length s % 4) 0) (p .0)), ltb-false mostLines (lines s) (q .0))
+
+rules-script : (s : List ℕ) → Whole s → lines s ≤ mostLines → someHolds (scriptCauses s) ≡ false
+unfolding someHolds scriptCauses
+rules-script s w f = rw (eq-eqb (length s % 4) 0 w, le-ltb mostLines (lines s) f)
+
+room-rule : (s : List ℕ) (bytes : ℕ) → someHolds (roomCauses s bytes) ≡ false → answerLength * lines s ≤ bytes
+unfolding someHolds roomCauses
+room-rule s bytes e = ltb-false bytes (answerLength * lines s) (or-false (ltb bytes (answerLength * lines s)) false e .0)
+
+rule-room : (s : List ℕ) (bytes : ℕ) → answerLength * lines s ≤ bytes → someHolds (roomCauses s bytes) ≡ false
+unfolding someHolds roomCauses
+rule-room s bytes h = rw (le-ltb bytes (answerLength * lines s) h)
+
+run-numbered : (script : List ℕ) (bytes : ℕ) → Numbered (scriptCauses script ++ roomCauses script bytes)
+unfolding scriptCauses roomCauses
+run-numbered script bytes = (omega arith, (omega arith, (omega arith, tt)))
+
+-- ---- the four lists in a row
+
+module _ (sheet script : List ℕ) (bytes : ℕ) where
+  some-causes : someHolds (causes sheet script bytes)
+      ≡ someHolds (sizeCauses sheet) || (someHolds (scriptCauses script) || (someHolds (roomCauses script bytes) || someHolds (frameCauses sheet)))
+  some-causes =
+      some-append (sizeCauses sheet) _
+      ∙ ap (λ (t : Bool). someHolds (sizeCauses sheet) || t) (some-append (scriptCauses script) _
+      ∙ ap (λ (t : Bool). someHolds (scriptCauses script) || t) (some-append (roomCauses script bytes) (frameCauses sheet)))
+
+  pub causes-numbered : Numbered (causes sheet script bytes)
+  unfolding lengthCauses
+  causes-numbered =
+      numbered-append (sizeCauses sheet) (scriptCauses script ++ (roomCauses script bytes ++ frameCauses sheet)) (omega arith, (omega arith, tt))
+      (rw append-assoc at (numbered-append (scriptCauses script ++ roomCauses script bytes) (frameCauses sheet) (run-numbered script bytes) (frame-numbered sheet)))
+
+  -- no cause holds, list by list
+  none-each : someHolds (causes sheet script bytes) ≡ false
+      → (someHolds (sizeCauses sheet) ≡ false) × (someHolds (scriptCauses script) ≡ false) × (someHolds (roomCauses script bytes) ≡ false) × (someHolds (frameCauses sheet) ≡ false)
+  none-each e =
+      let p = or-false (someHolds (sizeCauses sheet)) (someHolds (scriptCauses script) || (someHolds (roomCauses script bytes) || someHolds (frameCauses sheet))) (sym some-causes ∙ e) in
+      let q = or-false (someHolds (scriptCauses script)) (someHolds (roomCauses script bytes) || someHolds (frameCauses sheet)) (p .1) in
+      let r = or-false (someHolds (roomCauses script bytes)) (someHolds (frameCauses sheet)) (q .1) in
+      (p .0, q .0, r .0, r .1)
+
+  none-proper : someHolds (causes sheet script bytes) ≡ false → Proper sheet script bytes
+  none-proper e =
+      let p = none-each e in
+      record {
+        sheet-kept = none-keeps sheet (some-append (sizeCauses sheet) (frameCauses sheet) ∙ rw (p .0, p .3));
+        whole = script-rules script (p .1) .0;
+        few = script-rules script (p .1) .1;
+        room = room-rule script bytes (p .2);
+      }
+
+  proper-none : Proper sheet script bytes → someHolds (causes sheet script bytes) ≡ false
+  proper-none P =
+      let k = or-false (someHolds (sizeCauses sheet)) (someHolds (frameCauses sheet)) (sym (some-append (sizeCauses sheet) (frameCauses sheet)) ∙ keeps-none sheet (P .sheet-kept)) in
+      some-causes ∙ rw (k .0, k .1, rules-script script (P .whole) (P .few), rule-room script bytes (P .room))
+
+  -- number 0 is told exactly if the rules are kept
+  pub number-proper : refusal sheet script bytes .number ≡ 0 → Proper sheet script bytes
+  number-proper e = none-proper (first-none (causes sheet script bytes) causes-numbered e)
+
+  pub proper-accepted : Proper sheet script bytes → refusal sheet script bytes ≡ accepted
+  proper-accepted P = none-first (causes sheet script bytes) (proper-none P)
+
+  -- number n at place k is told exactly if that cause holds and none before it in document 01's order does
+  pub refused-foremost : (n k : ℕ) → 0 < n → (refusal sheet script bytes ≡ record { number = n; place = k }) ↔ Foremost (causes sheet script bytes) (record { number = n; place = k })
+  refused-foremost n k h = (λ e. subst (Foremost (causes sheet script bytes)) e (first-foremost (causes sheet script bytes) (holds e)), λ f. foremost-first f)
+    where
+      holds : refusal sheet script bytes ≡ record { number = n; place = k } → someHolds (causes sheet script bytes) ≡ true
+      holds e = by-bool (someHolds (causes sheet script bytes)) (λ t. t)
+          (λ t. absurd (omega (arith, ap (λ (r : Refusal). r .number) (sym (none-first (causes sheet script bytes) t) ∙ e))))

@@ -1,0 +1,123 @@
+-- The certificate, conditions 1 and 2: what every call that meets run's contract does. Each theorem stands under its sentence. Assumes nothing.
+use Prim.Native.Nat.{ℕ, _+_, _*_, _≤_, _<_}
+use native.Mathlib.Omega.{arith}
+use mathlib.Core.Path.{_≡_, sym, ap, _∙_}
+use mathlib.Core.Logic.{_↔_}
+use mathlib.Core.List.{List, [], _++_}
+use lib.ListN.{length, take, drop, length-append, length-drop}
+use lib.Seq.{take-append-le, drop-append-le, drop-at}
+use Rattle.formula.specs.Ask.{Verdict, ask}
+use Rattle.formula.specs.Why.{why}
+use Rattle.sheet.specs.Cause.{Refusal, Foremost}
+use Rattle.sheet.specs.Rules.{variables}
+use Rattle.solver.specs.Contract.{root, Tables}
+use Rattle.session.specs.Model.{enteredMask, enteredValues, Reply, answerLength, answerBytes, refused, judged, WHY, lines, lineAt, answerAt, answers, meaning}
+use Rattle.session.specs.Line.{refused-same, refused-answer}
+use Rattle.session.specs.Kinds.{ask-taken, why-taken}
+use Rattle.session.specs.Script.{after-next, length-answersTo, answer-bytes}
+use Rattle.run.specs.Run.{refusal, causes, book, before, Taken, Asked, Promised-at}
+use Rattle.run.specs.Call.{Call, Meets}
+use Rattle.run.specs.Accept.{Proper, number-proper, proper-accepted, refused-foremost}
+use Rattle.run.specs.Before.{before-entered}
+use Rattle.run.specs.Verdicts.{Decides, Reason, ask-decides, why-reason}
+
+-- the six bytes that a call leaves for line i
+abbrev pub lineBytes : Call → ℕ → List ℕ
+lineBytes o i = take answerLength (drop (answerLength * i) (o .ans'))
+
+module _ (sheet script : List ℕ) (o : Call) (R : Meets sheet script o) where
+  -- ---- condition 1
+
+  -- A run is accepted exactly if the sheet keeps document 01's rules, the script is at most 1,000 whole lines, and there is room for six bytes a line.
+  pub accepted-exactly : (o .number ≡ 0) ↔ Proper sheet script (length (o .ans))
+  accepted-exactly = (
+    λ e. number-proper sheet script (length (o .ans)) (sym (R .answered .number-is) ∙ e),
+    λ P. R .answered .number-is ∙ ap (λ (r : Refusal). r .number) (proper-accepted sheet script (length (o .ans)) P),
+  )
+
+  -- It is refused by a number at a place exactly if that cause holds there and none before it in document 01's order does.
+  pub refused-exactly : (n k : ℕ) → 0 < n → ((o .number ≡ n) × (o .place ≡ k)) ↔ Foremost (causes sheet script (length (o .ans))) (record { number = n; place = k })
+  refused-exactly n k h =
+      let F = refused-foremost sheet script (length (o .ans)) n k h in (
+        λ e. F .0 (both (sym (R .answered .number-is) ∙ e .0) (sym (R .answered .place-is) ∙ e .1)),
+        λ f. (R .answered .number-is ∙ ap (λ (r : Refusal). r .number) (F .1 f), R .answered .place-is ∙ ap (λ (r : Refusal). r .place) (F .1 f)),
+      )
+    where
+      both : refusal sheet script (length (o .ans)) .number ≡ n → refusal sheet script (length (o .ans)) .place ≡ k
+          → refusal sheet script (length (o .ans)) ≡ record { number = n; place = k }
+      both p q = λ i. record { number = p i; place = q i }
+
+  -- A refused run writes nothing and tells 0 records.
+  pub refused-untouched : 0 < o .number → (o .ans' ≡ o .ans) × (o .under' ≡ o .under) × (o .over' ≡ o .over) × (o .cu ≡ 0) × (o .co ≡ 0)
+  refused-untouched = R .answered .untouched
+
+  module _ (accepted : o .number ≡ 0) where
+    kept : Proper sheet script (length (o .ans))
+    kept = accepted-exactly .0 accepted
+
+    model-length : length (answers (book sheet) script) ≡ answerLength * lines script
+    unfolding answers
+    model-length = length-answersTo (book sheet) [] script (lines script)
+
+    -- An accepted run writes one answer for each line, the reference model's, from the start of the answer buffer.
+    pub one-answer : (i : ℕ) → i < lines script → lineBytes o i ≡ answerBytes (answerAt (book sheet) [] script i)
+    unfolding answers
+    one-answer i h =
+        let x = answers (book sheet) script in
+        let z = drop (answerLength * lines script) (o .ans) in
+        let l : answerLength * i ≤ length x = omega (arith, model-length) in
+        let r : answerLength ≤ length (drop (answerLength * i) x) = rw (length-drop, model-length) (omega arith) in
+        let e : o .ans' ≡ x ++ z = R .answered .written accepted in
+        rw (e, drop-append-le (answerLength * i) x z l, take-append-le answerLength (drop (answerLength * i) x) z r)
+        (answer-bytes (book sheet) [] script i (lines script) h)
+
+    -- What stands behind the answers in the buffer is as at entry, and so is the buffer's length.
+    pub behind-untouched : drop (answerLength * lines script) (o .ans') ≡ drop (answerLength * lines script) (o .ans)
+    behind-untouched = rw (R .answered .written accepted) (drop-at (answers (book sheet) script) (drop (answerLength * lines script) (o .ans)) (answerLength * lines script) model-length)
+
+    pub same-length : length (o .ans') ≡ length (o .ans)
+    same-length = rw (R .answered .written accepted, length-append, length-drop, model-length) (omega (arith, kept .room))
+
+    -- Every counted record is true of its frame: under records of one that is true, over records of one that is false.
+    pub records-true : Tables sheet (o .under') (o .cu) (o .over') (o .co)
+    records-true = R .recorded accepted .kept .tables
+
+    -- For every ASK that was answered, at exit the table concerned is full or holds the record that document 01 promises.
+    pub records-promised : (i : ℕ) → Asked sheet script i → Promised-at sheet script i (o .under') (o .cu) (o .over') (o .co)
+    records-promised = R .recorded accepted .promised
+
+    -- ---- condition 2
+
+    -- At every ASK of the script that is not refused, with the entries that then stand: the verdict is yes exactly if some assignment that agrees with
+    -- them makes the sheet's formula true, and the word is the smallest such word; on no it is 0.
+    pub asked-decided : (i : ℕ) → Asked sheet script i → (a : Verdict) × (lineBytes o i ≡ answerBytes (judged a)) × Decides (root sheet) (before sheet script i) a
+    unfolding answerAt lineAt meaning
+    asked-decided i q =
+        let es = before sheet script i in (
+          ask variables (root sheet) (enteredMask es) (enteredValues es),
+          one-answer i (q .line) ∙ ap (λ (r : Reply). answerBytes (r .answer)) (ask-taken (book sheet) es _ _ _ _ (q .taken) (q .kind)),
+          ask-decides sheet es (kept .sheet-kept) (before-entered sheet script i),
+        )
+
+    -- At every WHY that is not refused: the verdict is that of an ASK there, the variables marked force it, and none of them is idle.
+    pub reason-minimal : (i : ℕ) → Taken WHY sheet script i
+        → (a : Verdict) × (r : Verdict) × (lineBytes o i ≡ answerBytes (judged r)) × Decides (root sheet) (before sheet script i) a × Reason (root sheet) (before sheet script i) a r
+    unfolding answerAt lineAt meaning
+    reason-minimal i q =
+        let es = before sheet script i in (
+          ask variables (root sheet) (enteredMask es) (enteredValues es),
+          why variables (root sheet) (enteredMask es) (enteredValues es),
+          one-answer i (q .line) ∙ ap (λ (r : Reply). answerBytes (r .answer)) (why-taken (book sheet) es _ _ _ _ (q .taken) (q .kind)),
+          ask-decides sheet es (kept .sheet-kept) (before-entered sheet script i),
+          why-reason sheet es (kept .sheet-kept) (before-entered sheet script i),
+        )
+
+    -- A refused line changes nothing: the entries after it are those before it, and its answer is its number with V 0 and word 0.
+    pub refused-line : (i : ℕ) → i < lines script → 0 < answerAt (book sheet) [] script i .number
+        → (before sheet script (i + 1) ≡ before sheet script i) × (lineBytes o i ≡ answerBytes (refused (answerAt (book sheet) [] script i .number)))
+    unfolding answerAt lineAt
+    refused-line i l h =
+        let es = before sheet script i in (
+          after-next (book sheet) [] script i ∙ refused-same (book sheet) es _ _ _ _ h,
+          one-answer i l ∙ ap answerBytes (refused-answer (book sheet) es _ _ _ _ h),
+        )

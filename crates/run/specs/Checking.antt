@@ -1,0 +1,84 @@
+-- The check of a run in parts: an earlier list of causes refuses, or the later one decides. Assumes nothing.
+use Prim.Native.Nat.{ℕ}
+use native.Mathlib.Omega.{arith}
+use mathlib.Core.Path.{_≡_, refl, sym, ap, _∙_}
+use mathlib.Core.Bool.{false}
+use mathlib.Core.List.{List, [], _∷_, _++_, append-assoc}
+use Rattle.words.specs.Logic.{by-bool}
+use Rattle.sheet.specs.Cause.{Cause, Refusal, first, someHolds, Numbered, some-append, first-earlier, first-later, none-first, first-none}
+use Rattle.sheet.specs.Rules.{lengthCauses, sizeCauses, frameCauses}
+use Rattle.sheet.specs.Check.{Checks}
+use Rattle.run.specs.Run.{scriptCauses, roomCauses, causes}
+
+-- every cause is told at place 0
+abbrev pub AtZero : List Cause → Type 0
+AtZero [] = Unit {0}
+AtZero (c ∷ cs) = (c .place ≡ 0) × AtZero cs
+
+first-at-zero : (cs : List Cause) → AtZero cs → first cs .place ≡ 0
+unfolding first
+first-at-zero [] z = refl
+first-at-zero (c ∷ cs) z = by-bool (c .holds) (λ e. rw e (z .0)) (λ e. rw e (first-at-zero cs (z .1)))
+
+module _ (cs ds : List Cause) (s : List ℕ) where
+  -- a cause of the earlier list holds
+  earlier-checks : AtZero cs → {number : ℕ} → number ≡ first cs .number → (number ≡ 0 → ⊥) → Checks (cs ++ ds) s number 0 0
+  earlier-checks z {number} e f =
+      let h = by-bool (someHolds cs) (λ t. t) (λ t. absurd (f (e ∙ ap (λ (r : Refusal). r .number) (none-first cs t)))) in
+      let q = first-earlier cs ds h in
+      record {
+        number-is = e ∙ ap (λ (r : Refusal). r .number) (sym q);
+        place-is = sym (first-at-zero cs z) ∙ ap (λ (r : Refusal). r .place) (sym q);
+        free-is = rw (some-append cs ds, h);
+      }
+
+  -- none of them does
+  later-checks : Numbered cs → first cs .number ≡ 0 → {number place free : ℕ} → Checks ds s number place free → Checks (cs ++ ds) s number place free
+  later-checks n e c =
+      let h = first-none cs n e in
+      let q = first-later cs ds h in
+      record {
+        number-is = c .number-is ∙ ap (λ (r : Refusal). r .number) (sym q);
+        place-is = c .place-is ∙ ap (λ (r : Refusal). r .place) (sym q);
+        free-is = c .free-is ∙ rw (some-append cs ds, h);
+      }
+
+module _ (sheet script : List ℕ) (room : ℕ) where
+  size-numbered : Numbered (sizeCauses sheet)
+  unfolding lengthCauses
+  size-numbered = (omega arith, (omega arith, tt))
+
+  script-numbered : Numbered (scriptCauses script ++ roomCauses script room)
+  unfolding scriptCauses roomCauses
+  script-numbered = (omega arith, (omega arith, (omega arith, tt)))
+
+  size-at-zero : AtZero (sizeCauses sheet)
+  unfolding lengthCauses
+  size-at-zero = (refl, (refl, tt))
+
+  script-at-zero : AtZero (scriptCauses script ++ roomCauses script room)
+  unfolding scriptCauses roomCauses
+  script-at-zero = (refl, (refl, (refl, tt)))
+
+  -- the sheet's size refuses
+  pub size-checks : {number : ℕ} → number ≡ first (sizeCauses sheet) .number → (number ≡ 0 → ⊥) → Checks (causes sheet script room) sheet number 0 0
+  size-checks e f = earlier-checks (sizeCauses sheet) _ sheet size-at-zero e f
+
+  -- it does not
+  module _ {size : ℕ} (sized : size ≡ first (sizeCauses sheet) .number) (none : size ≡ 0) where
+    pub size-none : someHolds (sizeCauses sheet) ≡ false
+    size-none = first-none (sizeCauses sheet) size-numbered (sym sized ∙ none)
+
+    after-size : {number place free : ℕ} → Checks ((scriptCauses script ++ roomCauses script room) ++ frameCauses sheet) sheet number place free
+        → Checks (causes sheet script room) sheet number place free
+    after-size c = later-checks (sizeCauses sheet) _ sheet size-numbered (sym sized ∙ none) (rw append-assoc at c)
+
+    -- the script or the room refuses
+    pub script-checks : {number : ℕ} → number ≡ first (scriptCauses script ++ roomCauses script room) .number → (number ≡ 0 → ⊥)
+        → Checks (causes sheet script room) sheet number 0 0
+    script-checks e f = after-size (earlier-checks (scriptCauses script ++ roomCauses script room) (frameCauses sheet) sheet script-at-zero e f)
+
+    -- neither does: the frames decide
+    pub frames-checks : {fault number place free : ℕ} → fault ≡ first (scriptCauses script ++ roomCauses script room) .number → fault ≡ 0
+        → Checks (frameCauses sheet) sheet number place free → Checks (causes sheet script room) sheet number place free
+    frames-checks e z c = after-size (later-checks (scriptCauses script ++ roomCauses script room) (frameCauses sheet) sheet script-numbered (sym e ∙ z) c)

@@ -1,0 +1,14 @@
+pub mod Run
+pub mod Call
+pub mod Accept
+pub mod Before
+pub mod Exists
+pub mod Same
+pub mod Verdicts
+pub mod Certificate
+pub mod CertificateScripts
+pub mod Panel
+pub mod PanelHolds
+pub mod Written
+pub mod Progress
+pub mod Checking

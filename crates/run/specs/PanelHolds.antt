@@ -1,0 +1,55 @@
+-- The definitions give every panel case what document 01 says: one computed test over the table. Assumes nothing.
+use Prim.Native.Nat.{ℕ}
+use mathlib.Core.Path.{_≡_, refl, sym, ap, fun-ext, _∙_}
+use mathlib.Core.Bool.{_&&_}
+use mathlib.Core.List.{map, flatMap}
+use lib.Dec.{ltb}
+use Rattle.words.specs.Word.{bit}
+use Rattle.words.specs.Mask.{without, inside, maskOf}
+use Rattle.formula.specs.Assignment.{assign, within, join}
+use Rattle.formula.specs.Formula.{Formula, free}
+use Rattle.formula.specs.Ask.{freeMask}
+use Rattle.formula.specs.Why.{overlay, startMask, startWord}
+use Rattle.formula.specs.Compute.{sweepOver, truthOver, firstOver, askOver, alwaysOver, reduceOver, whyOver, askOver-ask, whyOver-why}
+use Rattle.sheet.specs.Frames.{kindOf, kind, build, tree, formulaOf}
+use Rattle.sheet.specs.Cause.{first}
+use Rattle.sheet.specs.Rules.{variables, someBelow, used, spareSet, names, someLate, badRange, badVariables, binds, boundBefore, meet, lengthCauses, byteCauses, causesBelow, frameCauses}
+use Rattle.session.specs.Model as Model
+use Rattle.session.specs.Model.{Meaning, meaning}
+use Rattle.run.specs.Run.{scriptCauses, roomCauses}
+use Rattle.run.specs.Panel.{bytesOfAll, Outcome, Case, panel, outcomeBy, outcome}
+
+-- a formula's meaning through the twins of ASK and WHY that visit only its own variables
+unfoldable meaningOver : ℕ → Formula → Meaning
+meaningOver n f = record { opens = λ x. ltb x n && free f x; asks = askOver n f; whys = whyOver n f }
+
+meaningOver-meaning : (n : ℕ) (f : Formula) → meaningOver n f ≡ meaning n f
+unfolding meaningOver meaning
+meaningOver-meaning n f = λ i. record {
+  opens = λ x. ltb x n && free f x;
+  asks = λ mask values. askOver-ask n f mask values i;
+  whys = λ mask values. whyOver-why n f mask values i;
+}
+
+unfoldable outcomeOver : Case → Outcome
+outcomeOver c = outcomeBy (meaningOver variables) (bytesOfAll 4 (c .sheet)) (bytesOfAll 4 (c .script))
+
+outcome-over : (c : Case) → outcome c ≡ outcomeOver c
+unfolding outcome outcomeOver
+outcome-over c = ap (λ (m : Formula → Meaning). outcomeBy m (bytesOfAll 4 (c .sheet)) (bytesOfAll 4 (c .script))) (fun-ext (λ f. sym (meaningOver-meaning variables f)))
+
+abbrev expected : Case → Outcome
+expected c = c .expected
+
+computed : map outcomeOver panel ≡ map expected panel
+unfolding panel outcomeOver outcomeBy flatMap Model.bytesOf
+    first lengthCauses scriptCauses roomCauses frameCauses causesBelow byteCauses
+    someBelow used spareSet names someLate badRange badVariables binds boundBefore meet
+    kindOf kind build tree formulaOf free within
+    meaningOver askOver whyOver firstOver truthOver sweepOver alwaysOver reduceOver freeMask maskOf join assign overlay startMask startWord without inside bit
+    Model.enteredMask Model.enteredValues Model.entered Model.answerBytes Model.used Model.unknown Model.lineRefusal Model.obeyed Model.line Model.lineAt Model.after Model.answerAt Model.answersTo Model.answers
+computed = refl
+
+-- The definitions give every case of the table what document 01 says: the refusal with its place, or the answers.
+pub panel-holds : map outcome panel ≡ map expected panel
+panel-holds = ap (λ (g : Case → Outcome). map g panel) (fun-ext outcome-over) ∙ computed

@@ -1,0 +1,145 @@
+// A script run over a sheet.
+mod answer;
+
+ghost use mathlib.Core.Path.{_≡_};
+ghost use mathlib.Core.List.{_++_};
+ghost use Prim.Native.Nat.{_+_, _*_, _/_, _<_, _≤_};
+ghost use lib.ListN.{length};
+ghost use Rattle.sheet.specs.Cause.{first};
+ghost use Rattle.sheet.specs.Check.{Checks};
+ghost use Rattle.session.specs.Model.{answerLength, lines};
+ghost use Rattle.session.specs.Sound.{Checked, Sound};
+ghost use Rattle.run.specs.Run.{scriptCauses, roomCauses, causes, Run};
+ghost use Rattle.run.specs.Progress.{LineRun, Progress};
+use session::Session;
+use sheet::refusal;
+
+// What a run tells: the refusal's number and place, 0 and 0 for none, and how many records the two tables hold.
+pub struct Ran {
+    pub number: u8,
+    pub place: u16,
+    pub under: usize,
+    pub over: usize,
+}
+
+// The first of the causes that a script and an answer buffer of that many bytes give, or 0.
+fn script_fault(script: &[u8], room: usize) -> u8
+    ensures { λ r. ⌜ r ≡ first (scriptCauses (now (script .entry)) ++ roomCauses (now (script .entry)) room) .number ⌝ }
+{
+    let n = script.len() / 4;
+    if script.len() % 4 != 0 {
+        return refusal::NOT_WHOLE;
+    }
+    if n > 1000 {
+        return refusal::SCRIPT_TOO_LONG;
+    }
+    if room < 6 * n {
+        return refusal::NO_ROOM;
+    }
+    0
+}
+
+// The run's refusal, in document 01's order, or none, with the free variables of the sheet's last frame.
+fn check(sheet: &[u8], script: &[u8], room: usize) -> sheet::Checked
+    ensures { λ r. ⌜ Checks (causes (now (sheet .entry)) (now (script .entry)) room) (now (sheet .entry)) (r .number) (r .place) (r .free) ⌝ }
+{
+    let size = sheet::size_fault(sheet.len());
+    if size != 0 {
+        return sheet::Checked {
+            number: size,
+            place: 0,
+            free: 0,
+        };
+    }
+    let fault = script_fault(script, room);
+    if fault != 0 {
+        return sheet::Checked {
+            number: fault,
+            place: 0,
+            free: 0,
+        };
+    }
+    sheet::check_frames(sheet)
+}
+
+// Line i: the session steps, and its answer is written.
+fn run_line(
+    session: Session,
+    i: usize,
+    sheet: &[u8],
+    free: u32,
+    script: &[u8],
+    answers: &mut [u8],
+    under: &mut [u32],
+    over: &mut [u32],
+) -> Session
+    requires { ⌜ Sound (now sheet) free session (now under) (now over) × ((i < lines (now script)) × (i * 6 + 6 ≤ length (now answers))) ⌝ }
+    ensures { λ r. ⌜ LineRun (now (sheet .entry)) (now (script .entry)) free i session (now (answers .entry)) (now (under .entry)) (now (over .entry)) r (now (answers .exit)) (now (under .exit)) (now (over .exit)) ⌝ }
+{
+    let at = i * 4;
+    let place = i * 6;
+    let stepped = session::line::step(
+        session,
+        script[at],
+        script[at + 1],
+        script[at + 2],
+        script[at + 3],
+        sheet,
+        free,
+        under,
+        over,
+    );
+    let told = stepped.answer;
+    answer::write(answers, place, told);
+    stepped.session
+}
+
+// Every line in turn, from no entry and no record.
+fn run_lines(
+    sheet: &[u8],
+    free: u32,
+    script: &[u8],
+    answers: &mut [u8],
+    under: &mut [u32],
+    over: &mut [u32],
+) -> Session
+    requires { ⌜ Checked (now sheet) free × (answerLength * lines (now script) ≤ length (now answers)) ⌝ }
+    ensures { λ r. ⌜ Progress (now (sheet .entry)) (now (script .entry)) free (now (answers .entry)) (now (under .entry)) (now (over .entry)) (lines (now (script .entry))) r (now (answers .exit)) (now (under .exit)) (now (over .exit)) ⌝ }
+{
+    let n = script.len() / 4;
+    let mut session = session::entries::empty();
+    let mut i: usize = 0;
+    while i < n {
+        session = run_line(session, i, sheet, free, script, answers, under, over);
+        i += 1;
+    }
+    session
+}
+
+// Runs a script over a sheet: one answer of six bytes a line, from the start of the answers. What the tables held is ignored.
+pub fn run(
+    sheet: &[u8],
+    script: &[u8],
+    answers: &mut [u8],
+    under: &mut [u32],
+    over: &mut [u32],
+) -> Ran
+    ensures { λ r. ⌜ Run (now (sheet .entry)) (now (script .entry)) (now (answers .entry)) (now (under .entry)) (now (over .entry)) (now (answers .exit)) (now (under .exit)) (now (over .exit)) (r .number) (r .place) (r .under) (r .over) ⌝ }
+{
+    let checked = check(sheet, script, answers.len());
+    if checked.number != 0 {
+        return Ran {
+            number: checked.number,
+            place: checked.place,
+            under: 0,
+            over: 0,
+        };
+    }
+    let last = run_lines(sheet, checked.free, script, answers, under, over);
+    Ran {
+        number: 0,
+        place: 0,
+        under: last.under,
+        over: last.over,
+    }
+}

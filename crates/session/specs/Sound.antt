@@ -1,0 +1,99 @@
+-- What a session holds, and what is always so of it: on a checked sheet, with entries that may stand together and tables of true records. Assumes nothing.
+use Prim.Native.Nat.{ℕ, _≤_, _<_}
+use native.Mathlib.Omega.{arith}
+use mathlib.Core.Path.{_≡_, sym}
+use mathlib.Core.List.{List, []}
+use lib.ListN.{length, take}
+use lib.Seq.{length-take-le, getD-take}
+use Rattle.formula.specs.Ask.{freeMask}
+use Rattle.words.specs.Word.{bit}
+use Rattle.sheet.specs.Frames.{frames, kind, formula, Ordered}
+use Rattle.sheet.specs.Rules.{variables}
+use Rattle.records.specs.Table.{valid-empty}
+use Rattle.solver.specs.Contract.{root, Tables, Ready}
+use Rattle.session.specs.declared.Entry.{Entry}
+use Rattle.session.specs.declared.Session.{Session}
+use Rattle.session.specs.Model.{Meaning, meaning, noEntry, enteredMask, enteredValues}
+use Rattle.session.specs.Entries.{Entered, entryAt, none-entered, opens-below, bit-opens, mask-free, values-mask}
+
+-- the entries that stand, oldest first
+abbrev pub standingOf : Session → List Entry
+standingOf x = take (x .len) (x .entries)
+
+-- what the reference model takes from a sheet: the meaning of its last frame
+abbrev pub sheetMeaning : List ℕ → Meaning
+sheetMeaning s = meaning variables (root s)
+
+-- s is a sheet that was checked, and free are the free (open) variables of its last frame
+pub record Checked (s : List ℕ) (free : ℕ) : Type 0 where
+  pub ordered : Ordered 32 (kind s)
+  pub some : 0 < frames s
+  pub few : frames s ≤ 200
+  pub opens : free ≡ freeMask 32 (root s)
+
+-- the array has its length, and as many entries stand as there are variables at most, each of one of them
+pub record Shaped (x : Session) : Type 0 where
+  pub cells : length (x .entries) ≡ 32
+  pub within : x .len ≤ 32
+  pub low : (i : ℕ) → i < x .len → entryAt (x .entries) i .variable < 32
+
+-- s with free is checked; entries are of open variables, distinct, and valued 0 or 1; the counted records are within the tables u and o, and true
+pub record Sound (s : List ℕ) (free : ℕ) (x : Session) (u o : List ℕ) : Type 0 where
+  pub sheet : Checked s free
+  pub cells : length (x .entries) ≡ 32
+  pub within : x .len ≤ 32
+  pub entered : Entered (sheetMeaning s) (standingOf x)
+  pub tables : Tables s u (x .under) o (x .over)
+
+-- ---- the entries
+
+pub length-standing : (x : Session) → length (x .entries) ≡ 32 → x .len ≤ 32 → length (standingOf x) ≡ x .len
+length-standing x e h = length-take-le (x .len) (x .entries) (omega arith)
+
+module _ {s : List ℕ} {free : ℕ} {x : Session} {u o : List ℕ} (d : Sound s free x u o) where
+  pub sound-length : length (standingOf x) ≡ x .len
+  sound-length = length-standing x (d .cells) (d .within)
+
+  pub sound-shaped : Shaped x
+  sound-shaped = record {
+    cells = d .cells;
+    within = d .within;
+    low = λ i h. opens-below variables (root s) _ (rw (getD-take (x .len) (x .entries) i noEntry h) at (d .entered .opened i (rw sound-length h)));
+  }
+
+  -- what the model calls open is what the word of the free variables has
+  pub sound-opens : (v : ℕ) → sheetMeaning s .opens v ≡ bit free v
+  sound-opens v = sym (rw (d .sheet .opens) (bit-opens variables (root s) v))
+
+  -- as the solver wants its entries
+  pub sound-ready : Ready s free (enteredMask (standingOf x)) (enteredValues (standingOf x)) u (x .under) o (x .over)
+  sound-ready = record {
+    ordered = d .sheet .ordered;
+    some = d .sheet .some;
+    few = d .sheet .few;
+    opens = d .sheet .opens;
+    entered = rw (d .sheet .opens) (mask-free variables (root s) (d .entered));
+    valued = values-mask (standingOf x);
+    tables = d .tables;
+  }
+
+-- ---- no entry, and no record
+
+pub record Empty (x : Session) : Type 0 where
+  pub cells : length (x .entries) ≡ 32
+  pub none : x .len ≡ 0
+  pub under : x .under ≡ 0
+  pub over : x .over ≡ 0
+
+pub empty-standing : {x : Session} → Empty x → standingOf x ≡ []
+empty-standing e = rw (e .none)
+
+-- the empty session is sound, with any tables
+pub empty-sound : {s : List ℕ} {free : ℕ} {x : Session} (u o : List ℕ) → Checked s free → Empty x → Sound s free x u o
+empty-sound {s} {x = x} u o k e = record {
+  sheet = k;
+  cells = e .cells;
+  within = omega (arith, e .none);
+  entered = rw (empty-standing e) (none-entered (sheetMeaning s));
+  tables = rw (e .under, e .over) (record { under = valid-empty (formula s) (frames s) _ u; over = valid-empty (formula s) (frames s) _ o });
+}

@@ -1,0 +1,183 @@
+-- From what the functions of each kind of line give to the contract of a line. Assumes nothing.
+use Prim.Native.Nat.{ℕ, _+_, _-_, _^_, _<_}
+use native.Mathlib.Omega.{arith}
+use native.Mathlib.Numerals.{add-one}
+use mathlib.Core.Path.{_≡_, refl, sym, _∙_}
+use mathlib.Core.Bool.{Bool, true, _||_}
+use mathlib.Core.List.{List, [], _∷_, _++_}
+use lib.ListN.{length, take, length-append}
+use lib.Seq.{take-suc}
+use lib.Bits.{bitOr}
+use lib.Dec.{ltb}
+use Rattle.words.specs.Logic.{clash, or-false, tests}
+use Rattle.formula.specs.Ask.{Verdict}
+use Rattle.sheet.specs.Rules.{variables, spareSet}
+use Rattle.records.specs.Table.{grown-refl}
+use Rattle.solver.specs.Contract.{root, Ready, Kept-on, Same}
+use Rattle.session.specs.declared.Entry.{Entry}
+use Rattle.session.specs.declared.Session.{Session}
+use Rattle.session.specs.Model.{Meaning, meaning, Reply, reply, refused, counted, told, judged, noEntry, enteredMask, enteredValues, ENTER, TAKE-BACK, READ, ASK, WHY, used, unknown, lineRefusal, obeyed, line}
+use Rattle.session.specs.Entries.{entryAt, entered-more, entries-at-most, mask-snoc, values-snoc, valuePart}
+use Rattle.session.specs.Line.{Passes, refusal-none, line-refused, line-taken}
+use Rattle.session.specs.Invariant.{line-keeps}
+use Rattle.session.specs.Sound.{standingOf, sheetMeaning, Sound, sound-length, sound-ready}
+use Rattle.session.specs.Step.{askOf, whyOf, PromisedFor, Words, Tells, Replies, Recounted, Searches, Untouched, searches, Step}
+
+-- ---- the entries' words, entry by entry
+
+pub words-none : Words [] 0 0
+unfolding enteredMask enteredValues
+words-none = record { mask-is = refl; values-are = refl }
+
+pub words-next : (l : List Entry) (i mask values mask' values' : ℕ) → i < length l → Words (take i l) mask values
+    → mask' ≡ bitOr mask (2 ^ entryAt l i .variable) → values' ≡ bitOr values (valuePart (entryAt l i)) → Words (take (i + 1) l) mask' values'
+words-next l i mask values mask' values' h w e f =
+    let t = take-suc l i noEntry h in
+    record {
+      mask-is = rw (add-one, t, mask-snoc (take i l) (entryAt l i)) (e ∙ rw (w .mask-is));
+      values-are = rw (add-one, t, values-snoc (take i l) (entryAt l i)) (f ∙ rw (w .values-are));
+    }
+
+-- ---- a verdict told by its two parts
+
+pub same-tells : {a : Verdict} {holds : Bool} {word number v w : ℕ} → Same a holds word
+    → Tells (judged (record { holds = holds; word = word })) number v w → Tells (judged a) number v w
+same-tells s t = record {
+  number-is = t .number-is;
+  v-is = t .v-is ∙ rw (s .holds);
+  word-is = t .word-is ∙ s .word;
+}
+
+-- ---- a search, put together
+
+pub searched : {s u o u' o' : List ℕ} {x x' : Session} {a : Verdict} {holds : Bool} {word cu co number v w : ℕ}
+    → Same a holds word → Kept-on s u (x .under) o (x .over) u' cu o' co → Recounted x cu co x'
+    → Tells (judged (record { holds = holds; word = word })) number v w → Searches s x u o a x' u' o' number v w
+searched e k r t = record {
+  tells = same-tells e t;
+  entries = r .entries;
+  len = r .len;
+  kept = rw (r .under, r .over) k;
+}
+
+pub words-ready : {s : List ℕ} {free mask values : ℕ} {x : Session} {u o : List ℕ} → Sound s free x u o → Words (standingOf x) mask values
+    → Ready s free mask values u (x .under) o (x .over)
+words-ready d w = rw (w .mask-is, w .values-are) (sound-ready d)
+
+-- ---- a line of each kind
+
+module _ {s : List ℕ} {free : ℕ} {x : Session} {u o : List ℕ} (d : Sound s free x u o) (k a b c : ℕ) where
+  abbrev es : List Entry
+  es = standingOf x
+
+  abbrev m : Meaning
+  m = sheetMeaning s
+
+  -- a line that is no ASK, or is refused, and leaves the tables
+  replies-step : {x' : Session} {number v word : ℕ} → (number ≡ 0 → k ≡ ASK → ⊥)
+      → Replies x (line m es k a b c) x' number v word → Step s free x u o k a b c x' u o number v word
+  replies-step {x'} quiet r =
+      let M = r .moved in
+      let t = rw (← M .under, ← M .over) at (d .tables) in
+      let same : Untouched x u o x' u o = record { under = refl; over = refl; under-count = M .under; over-count = M .over } in
+      record {
+        tells = r .tells;
+        stands = M .stands;
+        sound = record {
+          sheet = d .sheet;
+          cells = M .cells;
+          within = M .within;
+          entered = rw (M .stands) (line-keeps m es k a b c (d .entered));
+          tables = t;
+        };
+        kept = record { tables = t; under = rw (M .under) (grown-refl u (x .under)); over = rw (M .over) (grown-refl o (x .over)) };
+        refused-same = λ h. same;
+        quiet-same = λ h. same;
+        promised = λ z e. absurd (quiet z e);
+      }
+
+  pub refused-step : {number : ℕ} → number ≡ lineRefusal m es k a b c → (number ≡ 0 → ⊥) → {x' : Session} {n v w : ℕ}
+      → Replies x (reply (refused number) es) x' n v w → Step s free x u o k a b c x' u o n v w
+  refused-step {number} e f r =
+      let l : line m es k a b c ≡ reply (refused number) es = rw e (line-refused m es k a b c (omega arith)) in
+      replies-step (λ z y. f (sym (r .tells .number-is) ∙ z)) (rw l r)
+
+  -- a line that is not refused
+  module _ {number : ℕ} (is : number ≡ lineRefusal m es k a b c) (none : number ≡ 0) where
+    taken : lineRefusal m es k a b c ≡ 0
+    taken = sym is ∙ none
+
+    passes : Passes m es k a b c
+    passes = refusal-none m es k a b c taken
+
+    -- one more entry has its place
+    pub enter-room : k ≡ ENTER → x .len < 32
+    enter-room e =
+        let D = entered-more (record { variable = a; value = b }) (d .entered) (passes .fresh e) (passes .opened e) (passes .valued e) in
+        omega (arith, simp length-append at (entries-at-most variables (root s) D), sound-length d)
+
+    pub take-back-some : k ≡ TAKE-BACK → 0 < x .len
+    take-back-some e = omega (arith, passes .standing e, sound-length d)
+
+    pub read-there : k ≡ READ → a < x .len
+    read-there e = omega (arith, passes .there e, sound-length d)
+
+    -- what a taken line does is given as the reply y, and it is no ASK
+    obeys-step : {y : Reply} → obeyed m es k a b ≡ y → (k ≡ ASK → ⊥) → {x' : Session} {n v w : ℕ}
+        → Replies x y x' n v w → Step s free x u o k a b c x' u o n v w
+    obeys-step e q r = replies-step (λ z. q) (rw (line-taken m es k a b c taken, e) r)
+
+    pub enter-step : k ≡ ENTER → {x' : Session} {n v w : ℕ}
+        → Replies x (reply (counted (length es + 1)) (es ++ (record { variable = a; value = b } ∷ []))) x' n v w → Step s free x u o k a b c x' u o n v w
+    unfolding obeyed
+    enter-step e r = obeys-step (rw e) (λ z. omega arith) r
+
+    pub take-back-step : k ≡ TAKE-BACK → {x' : Session} {n v w : ℕ}
+        → Replies x (reply (told (entryAt es (length es - 1))) (take (length es - 1) es)) x' n v w → Step s free x u o k a b c x' u o n v w
+    unfolding obeyed
+    take-back-step e r = obeys-step (rw e) (λ z. omega arith) r
+
+    pub read-step : k ≡ READ → {x' : Session} {n v w : ℕ}
+        → Replies x (reply (told (entryAt es a)) es) x' n v w → Step s free x u o k a b c x' u o n v w
+    unfolding obeyed
+    read-step e r = obeys-step (rw e) (λ z. omega arith) r
+
+    -- an ASK or a WHY, which tells the verdict g
+    searches-step : {g : Verdict} → obeyed m es k a b ≡ reply (judged g) es → searches k ≡ true → {x' : Session} {u' o' : List ℕ} {n v w : ℕ}
+        → Searches s x u o g x' u' o' n v w → (k ≡ ASK → PromisedFor s es u' (x' .under) o' (x' .over)) → Step s free x u o k a b c x' u' o' n v w
+    searches-step e q {x'} r p =
+        let l = line-taken m es k a b c taken ∙ e in
+        let same : standingOf x' ≡ es = rw (r .entries, r .len) in
+        record {
+          tells = rw l (r .tells);
+          stands = rw l same;
+          sound = record {
+            sheet = d .sheet;
+            cells = rw (r .entries) (d .cells);
+            within = rw (r .len) (d .within);
+            entered = rw same (d .entered);
+            tables = r .kept .tables;
+          };
+          kept = r .kept;
+          refused-same = λ h. absurd (omega (arith, r .tells .number-is));
+          quiet-same = λ h. clash (searches k) q h;
+          promised = λ z. p;
+        }
+
+    pub ask-step : k ≡ ASK → {x' : Session} {u' o' : List ℕ} {n v w : ℕ}
+        → Searches s x u o (askOf s es) x' u' o' n v w → PromisedFor s es u' (x' .under) o' (x' .over) → Step s free x u o k a b c x' u' o' n v w
+    unfolding obeyed meaning
+    ask-step e r p = searches-step (rw e) (rw e) r (λ z. p)
+
+    -- the fifth kind is what is left
+    why-kind : (k ≡ ENTER → ⊥) → (k ≡ TAKE-BACK → ⊥) → (k ≡ READ → ⊥) → (k ≡ ASK → ⊥) → k ≡ WHY
+    unfolding unknown
+    why-kind f g h i =
+        let p = or-false (ltb k ENTER) (ltb WHY k || spareSet (used k) a b c) (passes .known) in
+        let q = or-false (ltb WHY k) (spareSet (used k) a b c) (p .1) in
+        omega (tests, p .0, q .0)
+
+    pub why-step : (k ≡ ENTER → ⊥) → (k ≡ TAKE-BACK → ⊥) → (k ≡ READ → ⊥) → (k ≡ ASK → ⊥) → {x' : Session} {u' o' : List ℕ} {n v w : ℕ}
+        → Searches s x u o (whyOf s es) x' u' o' n v w → Step s free x u o k a b c x' u' o' n v w
+    unfolding obeyed meaning
+    why-step f g h i r = let e = why-kind f g h i in searches-step (rw e) (rw e) r (λ z. absurd (i z))

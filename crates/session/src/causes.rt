@@ -1,0 +1,125 @@
+// Why a line is refused: document 01's causes 12 to 17 in their order.
+ghost use mathlib.Core.Path.{_≡_};
+ghost use mathlib.Core.Bool.{cond};
+ghost use lib.Dec.{eqb, leb};
+ghost use Rattle.words.specs.Word.{bit};
+ghost use Rattle.sheet.specs.Refusal as Number;
+ghost use Rattle.sheet.specs.Rules.{spareSet};
+ghost use Rattle.session.specs.Model as Model;
+ghost use Rattle.session.specs.Model.{Meaning, lineRefusal};
+ghost use Rattle.session.specs.Sound.{standingOf, Shaped};
+ghost use Rattle.session.specs.Causes.{Opens, enterCause};
+use crate::Session;
+use crate::entries;
+use sheet::refusal;
+use words::w32;
+
+// The kinds of a line.
+pub const ENTER: u8 = 0x10;
+
+pub const TAKE_BACK: u8 = 0x11;
+
+pub const READ: u8 = 0x12;
+
+pub const ASK: u8 = 0x13;
+
+pub const WHY: u8 = 0x14;
+
+// Whether a spare byte is not 0: no kind uses C, ENTER alone uses B, and ENTER and READ use A.
+fn spare_set(k: u8, a: u8, b: u8, c: u8) -> bool
+    ensures { λ r. ⌜ r ≡ spareSet (Model.used k) a b c ⌝ }
+{
+    if c != 0 {
+        return true;
+    }
+    if k == ENTER {
+        return false;
+    }
+    if b != 0 {
+        return true;
+    }
+    if k == READ {
+        return false;
+    }
+    a != 0
+}
+
+// Whether the kind is none of the five, or a spare byte is not 0.
+fn unknown(k: u8, a: u8, b: u8, c: u8) -> bool
+    ensures { λ r. ⌜ r ≡ Model.unknown k a b c ⌝ }
+{
+    if k < ENTER {
+        return true;
+    }
+    if k > WHY {
+        return true;
+    }
+    spare_set(k, a, b, c)
+}
+
+// Whether the word has the variable; one past the last place it has not.
+fn has(word: u32, variable: u8) -> bool
+    ensures { λ r. ⌜ r ≡ bit word variable ⌝ }
+{
+    if variable < 32 {
+        return w32::has(word, variable);
+    }
+    false
+}
+
+// Why an ENTER is refused, or 0.
+fn enter_cause(free: u32, mask: u32, a: u8, b: u8) -> u8
+    ensures { λ r. ⌜ r ≡ enterCause free mask a b ⌝ }
+{
+    if !has(free, a) {
+        return refusal::ENTER_NOT_FREE;
+    }
+    if b > 1 {
+        return refusal::ENTER_VALUE;
+    }
+    if has(mask, a) {
+        return refusal::ENTERED_TWICE;
+    }
+    0
+}
+
+// Why a TAKE BACK is refused where n entries stand, or 0.
+fn take_back_cause(n: usize) -> u8
+    ensures { λ r. ⌜ r ≡ cond (eqb n 0) Number.nothingEntered 0 ⌝ }
+{
+    if n == 0 {
+        return refusal::NOTHING_ENTERED;
+    }
+    0
+}
+
+// Why a READ is refused where n entries stand, or 0.
+fn read_cause(n: usize, a: u8) -> u8
+    ensures { λ r. ⌜ r ≡ cond (leb n a) Number.noEntryThere 0 ⌝ }
+{
+    if n <= a as usize {
+        return refusal::NO_ENTRY_THERE;
+    }
+    0
+}
+
+// The number by which a line is refused, or 0; free are the variables that may be entered.
+pub fn line_cause(session: Session, free: u32, k: u8, a: u8, b: u8, c: u8) -> u8
+    requires { ⌜ Shaped session ⌝ }
+    ensures { λ r. ⌜ ((m : Meaning) → Opens m free → r ≡ lineRefusal m (standingOf session) k a b c) ⌝ }
+{
+    if unknown(k, a, b, c) {
+        return refusal::LINE_UNKNOWN;
+    }
+    if k == ENTER {
+        let cube = entries::entered(session);
+        return enter_cause(free, cube.mask, a, b);
+    }
+    if k == TAKE_BACK {
+        return take_back_cause(session.len);
+    }
+    if k == READ {
+        return read_cause(session.len, a);
+    }
+    0
+}

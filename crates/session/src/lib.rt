@@ -1,0 +1,31 @@
+// A session over one sheet: the entries standing, and one script line. Everything here is `pub` for the crate `run`, which keeps its session sound.
+pub mod causes;
+pub mod entries;
+pub mod line;
+
+// A variable that is entered, and its value.
+pub struct Entry {
+    pub variable: u8,
+    pub value: u8,
+}
+
+// The first `len` entries stand, oldest first; the first `under` and `over` records of the two tables count.
+pub struct Session {
+    pub entries: [Entry; 32],
+    pub len: usize,
+    pub under: usize,
+    pub over: usize,
+}
+
+// An answer: a refusal number or 0, document 01's V, and the word.
+pub struct Answer {
+    pub number: u8,
+    pub v: u8,
+    pub word: u32,
+}
+
+// A session after a line, and the line's answer.
+pub struct Stepped {
+    pub session: Session,
+    pub answer: Answer,
+}

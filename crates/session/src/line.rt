@@ -1,0 +1,190 @@
+// One script line by value.
+ghost use mathlib.Core.List.{[], _∷_, _++_};
+ghost use Prim.Native.Nat.{_+_, _-_, _<_};
+ghost use lib.ListN.{length, take};
+ghost use Rattle.session.specs.Model.{reply, refused, counted, told, judged};
+ghost use Rattle.session.specs.Entries.{entryAt};
+ghost use Rattle.session.specs.Sound.{standingOf, Shaped, Sound};
+ghost use Rattle.session.specs.Step.{askOf, whyOf, PromisedFor, Tells, Replies, Recounted, Searches, Step};
+use crate::Answer;
+use crate::Entry;
+use crate::Session;
+use crate::Stepped;
+use crate::causes;
+use crate::causes::ASK;
+use crate::causes::ENTER;
+use crate::causes::READ;
+use crate::causes::TAKE_BACK;
+use crate::entries;
+
+// A line that is refused by that number: nothing changes.
+fn refuse(session: Session, number: u8) -> Stepped
+    requires { ⌜ Shaped session ⌝ }
+    ensures { λ r. ⌜ Replies session (reply (refused number) (standingOf session)) (r .session) (r .answer .number) (r .answer .v) (r .answer .word) ⌝ }
+{
+    let answer = Answer {
+        number,
+        v: 0,
+        word: 0,
+    };
+    Stepped { session, answer }
+}
+
+// An entry, as TAKE BACK and READ tell it.
+fn tell_entry(entry: Entry) -> Answer
+    ensures { λ r. ⌜ Tells (told entry) (r .number) (r .v) (r .word) ⌝ }
+{
+    Answer {
+        number: 0,
+        v: entry.variable,
+        word: entry.value as u32,
+    }
+}
+
+fn enter(session: Session, variable: u8, value: u8) -> Stepped
+    requires { ⌜ Shaped session × (session .len < 32) ⌝ }
+    ensures { λ r. ⌜ Replies session (reply (counted (length (standingOf session) + 1)) (standingOf session ++ (record { variable = variable; value = value } ∷ []))) (r .session) (r .answer .number) (r .answer .v) (r .answer .word) ⌝ }
+{
+    let n = session.len + 1;
+    let longer = entries::append(session, Entry { variable, value });
+    let answer = Answer {
+        number: 0,
+        v: n as u8,
+        word: 0,
+    };
+    Stepped {
+        session: longer,
+        answer,
+    }
+}
+
+fn take_back(session: Session) -> Stepped
+    requires { ⌜ Shaped session × (0 < session .len) ⌝ }
+    ensures { λ r. ⌜ Replies session (reply (told (entryAt (standingOf session) (length (standingOf session) - 1))) (take (length (standingOf session) - 1) (standingOf session))) (r .session) (r .answer .number) (r .answer .v) (r .answer .word) ⌝ }
+{
+    let last = session.len - 1;
+    let answer = tell_entry(entries::entry_at(session, last));
+    let shorter = entries::truncate(session, last);
+    Stepped {
+        session: shorter,
+        answer,
+    }
+}
+
+fn read(session: Session, place: u8) -> Stepped
+    requires { ⌜ Shaped session × (place < session .len) ⌝ }
+    ensures { λ r. ⌜ Replies session (reply (told (entryAt (standingOf session) place)) (standingOf session)) (r .session) (r .answer .number) (r .answer .v) (r .answer .word) ⌝ }
+{
+    let i = place as usize;
+    let answer = tell_entry(entries::entry_at(session, i));
+    Stepped { session, answer }
+}
+
+// A verdict, as ASK and WHY tell it.
+fn tell_verdict(holds: bool, word: u32) -> Answer
+    ensures { λ r. ⌜ Tells (judged (record { holds = holds; word = word })) (r .number) (r .v) (r .word) ⌝ }
+{
+    if holds {
+        return Answer {
+            number: 0,
+            v: 1,
+            word,
+        };
+    }
+    Answer {
+        number: 0,
+        v: 0,
+        word,
+    }
+}
+
+// The same entries, with that many records counted.
+fn recount(session: Session, under: usize, over: usize) -> Session
+    ensures { λ r. ⌜ Recounted session under over r ⌝ }
+{
+    let mut next = session;
+    next.under = under;
+    next.over = over;
+    next
+}
+
+fn ask(session: Session, sheet: &[u8], free: u32, under: &mut [u32], over: &mut [u32]) -> Stepped
+    requires { ⌜ Sound (now sheet) free session (now under) (now over) ⌝ }
+    ensures { λ r. ⌜ Searches (now (sheet .entry)) session (now (under .entry)) (now (over .entry)) (askOf (now (sheet .entry)) (standingOf session)) (r .session) (now (under .exit)) (now (over .exit)) (r .answer .number) (r .answer .v) (r .answer .word) ⌝ }
+    ensures { λ r. ⌜ PromisedFor (now (sheet .entry)) (standingOf session) (now (under .exit)) (r .session .under) (now (over .exit)) (r .session .over) ⌝ }
+{
+    let cube = entries::entered(session);
+    let found = solver::ask(
+        sheet,
+        free,
+        cube.mask,
+        cube.values,
+        under,
+        session.under,
+        over,
+        session.over,
+    );
+    let next = recount(session, found.under, found.over);
+    let answer = tell_verdict(found.holds, found.word);
+    Stepped {
+        session: next,
+        answer,
+    }
+}
+
+fn why(session: Session, sheet: &[u8], free: u32, under: &mut [u32], over: &mut [u32]) -> Stepped
+    requires { ⌜ Sound (now sheet) free session (now under) (now over) ⌝ }
+    ensures { λ r. ⌜ Searches (now (sheet .entry)) session (now (under .entry)) (now (over .entry)) (whyOf (now (sheet .entry)) (standingOf session)) (r .session) (now (under .exit)) (now (over .exit)) (r .answer .number) (r .answer .v) (r .answer .word) ⌝ }
+{
+    let cube = entries::entered(session);
+    let found = solver::why(
+        sheet,
+        free,
+        cube.mask,
+        cube.values,
+        under,
+        session.under,
+        over,
+        session.over,
+    );
+    let next = recount(session, found.under, found.over);
+    let answer = tell_verdict(found.holds, found.word);
+    Stepped {
+        session: next,
+        answer,
+    }
+}
+
+// A line with kind k and bytes a, b, c; free are the free variables of the sheet's last frame.
+pub fn step(
+    session: Session,
+    k: u8,
+    a: u8,
+    b: u8,
+    c: u8,
+    sheet: &[u8],
+    free: u32,
+    under: &mut [u32],
+    over: &mut [u32],
+) -> Stepped
+    requires { ⌜ Sound (now sheet) free session (now under) (now over) ⌝ }
+    ensures { λ r. ⌜ Step (now (sheet .entry)) free session (now (under .entry)) (now (over .entry)) k a b c (r .session) (now (under .exit)) (now (over .exit)) (r .answer .number) (r .answer .v) (r .answer .word) ⌝ }
+{
+    let number = causes::line_cause(session, free, k, a, b, c);
+    if number != 0 {
+        return refuse(session, number);
+    }
+    if k == ENTER {
+        return enter(session, a, b);
+    }
+    if k == TAKE_BACK {
+        return take_back(session);
+    }
+    if k == READ {
+        return read(session, a);
+    }
+    if k == ASK {
+        return ask(session, sheet, free, under, over);
+    }
+    why(session, sheet, free, under, over)
+}

@@ -1,0 +1,10 @@
+pub mod Frames
+pub mod Refusal
+pub mod Cause
+pub mod Rules
+pub mod Keeps
+pub mod RuleLaws
+pub mod Accepted
+pub mod Check
+pub mod Pass
+pub mod Cases

@@ -1,0 +1,217 @@
+-- One pass over the frames: what holds before frame k, how it comes to hold before the next, and what the check answers. Assumes nothing.
+use Prim.Native.Nat.{ℕ, zero, suc, _+_, _-_, _≤_, _<_}
+use native.Mathlib.Numerals.{add-one}
+use native.Mathlib.Omega.{arith}
+use mathlib.Core.Path.{_≡_, refl, sym, _∙_, ap, subst, fun-ext}
+use mathlib.Core.Bool.{Bool, true, false, cond, _||_, or-false}
+use mathlib.Core.List.{List, [], _∷_}
+use lib.ListN.{length, getD, set, length-set}
+use lib.Seq.{getD-set-same, getD-set-other}
+use lib.Dec.{eqb}
+use lib.Bits.{bitOr}
+use Rattle.words.specs.Logic.{by-bool, clash, or-left, or-right, tests}
+use Rattle.words.specs.Word.{bit, bit-or, bit-none}
+use Rattle.formula.specs.Formula.{free}
+use Rattle.formula.specs.Ask.{freeMask, bit-free}
+use Rattle.sheet.specs.Refusal as Number
+use Rattle.sheet.specs.Cause.{Cause, Refusal, first, someHolds, some-append, first-later, first-earlier, first-none, none-first}
+use Rattle.sheet.specs.Frames.{frames, kind, formula, Fit, fit-later, formula-below, kind-at}
+use Rattle.sheet.specs.Rules.{last, badVariables, boundBefore, meet, lengthCauses, sizeCauses, byteCauses, causesOf, causesAt, causesBelow, rootCauses, frameCauses, sheetCauses}
+use Rattle.sheet.specs.declared.Kind.{Kind}
+use Rattle.sheet.specs.RuleLaws.{CleanAt, none-clean, clean-below, below-ordered, byte-numbered, size-numbered}
+use Rattle.sheet.specs.Accepted.{clean-ordered, ordered-bounded}
+use Rattle.sheet.specs.Check.{Checks, boundMask, bit-boundMask, freeWord, FreeBelow, freeWord-is, meet-same}
+
+-- before frame k: no cause holds below it, and the words of free and of bound variables are right
+pub record Passed (s words : List ℕ) (bound k : ℕ) : Type 0 where
+  pub most : frames s ≤ 200
+  pub room : length words ≡ 200
+  pub within : k ≤ frames s
+  pub clean : (j : ℕ) → j < k → CleanAt s j
+  pub frees : FreeBelow 32 k words (formula s)
+  pub bounds : (v : ℕ) → bit bound v ≡ boundBefore (kind s) k v
+
+pub passed-none : (s words : List ℕ) → frames s ≤ 200 → length words ≡ 200 → Passed s words 0 0
+unfolding boundBefore
+passed-none s words m l =
+    record { most = m; room = l; within = omega arith; clean = λ j h. absurd (omega arith); frees = λ a h. absurd (omega arith); bounds = λ v. bit-none v }
+
+module _ (s words : List ℕ) (bound k : ℕ) (P : Passed s words bound k) (h : k < frames s) where
+  -- the causes at frame k, by the word of bound variables
+  pub causes-same : causesOf s k (bit bound) ≡ causesAt s k
+  causes-same = ap (causesOf s k) (fun-ext (P .bounds))
+
+  pub fault-clean : first (causesOf s k (bit bound)) .number ≡ 0 → CleanAt s k
+  fault-clean e =
+      none-clean _ _ _ _ k _ (first-none (causesAt s k) (byte-numbered _ _ _ _ k _) (ap (λ (l : List Cause). first l .number) (sym causes-same) ∙ e))
+
+  module _ (g : CleanAt s k) where
+    clean-next : (j : ℕ) → j < suc k → CleanAt s j
+    clean-next j l = by-bool (eqb j k)
+        (λ q. let e : k ≡ j = omega tests in subst (CleanAt s) e g)
+        (λ q. P .clean j (omega tests))
+
+    pub fit-next : Fit 32 k (kind s k)
+    fit-next = below-ordered s (suc k) h clean-next k (omega arith)
+
+    free-next : freeWord words (kind s k) ≡ freeMask 32 (formula s k)
+    free-next =
+        freeWord-is 32 k words (formula s) (kind s k) (P .frees) fit-next
+        ∙ ap (freeMask 32) (sym (formula-below 32 (suc k) (kind s) (below-ordered s (suc k) h clean-next) k (omega arith)))
+
+    pub pass-next : Passed s (set words k (freeWord words (kind s k))) (bitOr bound (boundMask (kind s k))) (k + 1)
+    unfolding boundBefore
+    pass-next = rw (add-one k) (record {
+      most = P .most;
+      room = length-set words k _ ∙ P .room;
+      within = omega arith;
+      clean = clean-next;
+      frees = λ a l. by-bool (eqb a k)
+          (λ q. let e : a ≡ k = omega tests in rw (e, getD-set-same words k (freeWord words (kind s k)) 0 (omega (arith, P .room, P .most))) free-next)
+          (λ q. rw (getD-set-other words k a (freeWord words (kind s k)) 0 (λ e. omega tests)) (P .frees a (omega tests)));
+      bounds = λ v. rw (bit-or, P .bounds v, bit-boundMask);
+    })
+
+-- the same of a kind, a word and a range that the code has read
+module _ (s words : List ℕ) (bound k : ℕ) (P : Passed s words bound k) (h : k < frames s) (g : CleanAt s k) (d : Kind) (e : d ≡ kind s k) where
+  pub kind-fit : Fit 32 200 d
+  kind-fit = subst (Fit 32 200) (sym e) (fit-later 32 k 200 (kind s k) (omega (arith, P .most)) (fit-next s words bound k P h g))
+
+  pub kind-range : badVariables d ≡ false
+  kind-range = ap badVariables (e ∙ kind-at s k h) ∙ g .variable
+
+  pub pass-read : (w r : ℕ) → w ≡ freeWord words d → r ≡ boundMask d → Passed s (set words k w) (bitOr bound r) (k + 1)
+  pass-read w r p q = rw (p, q, e) (pass-next s words bound k P h g)
+
+-- ---- the answers
+
+-- every cause of the list is told at k
+abbrev At : ℕ → List Cause → Type 0
+At k [] = Unit {0}
+At k (c ∷ cs) = (c .place ≡ k) × At k cs
+
+place-of : (cs : List Cause) (k : ℕ) → At k cs → someHolds cs ≡ true → first cs .place ≡ k
+unfolding first someHolds
+place-of [] k a e = clash false e refl
+place-of (c ∷ cs) k a e = by-bool (c .holds)
+    (λ h. rw h (a .0))
+    (λ h. rw h (place-of cs k (a .1) (ap (λ (t : Bool). t || someHolds cs) (sym h) ∙ e)))
+
+byte-place : (code a b c k : ℕ) (p : ℕ → Bool) → someHolds (byteCauses code a b c k p) ≡ true → first (byteCauses code a b c k p) .place ≡ k
+unfolding first someHolds byteCauses
+byte-place code a b c k p e = place-of (byteCauses code a b c k p) k (refl, (refl, (refl, (refl, (refl, tt))))) e
+
+module _ (s : List ℕ) (k : ℕ) (clean : (j : ℕ) → j < k → CleanAt s j) (e : someHolds (causesAt s k) ≡ true) where
+  -- a cause at frame k comes before those of later frames
+  holds-below : (m : ℕ) → k < m → someHolds (causesBelow s m) ≡ true
+  unfolding causesBelow
+  holds-below zero h = absurd (omega arith)
+  holds-below (suc m) h = some-append (causesBelow s m) (causesAt s m) ∙ by-bool (eqb k m)
+      (λ q. let w : m ≡ k = omega tests in or-right (someHolds (causesBelow s m)) (someHolds (causesAt s m)) (ap (λ (j : ℕ). someHolds (causesAt s j)) w ∙ e))
+      (λ q. or-left (someHolds (causesBelow s m)) (someHolds (causesAt s m)) (holds-below m (omega tests)))
+
+  first-below : (m : ℕ) → k < m → first (causesBelow s m) ≡ first (causesAt s k)
+  unfolding causesBelow
+  first-below zero h = absurd (omega arith)
+  first-below (suc m) h = by-bool (eqb k m)
+      (λ q. let w : m ≡ k = omega tests in rw w (first-later (causesBelow s k) (causesAt s k) (clean-below s k clean)))
+      (λ q. let l : k < m = omega tests in first-earlier (causesBelow s m) (causesAt s m) (holds-below m l) ∙ first-below m l)
+
+module _ (s words : List ℕ) (bound k : ℕ) (P : Passed s words bound k) (h : k < frames s) where
+  fault-holds : (n : ℕ) → n ≡ first (causesOf s k (bit bound)) .number → (n ≡ 0 → ⊥) → someHolds (causesAt s k) ≡ true
+  fault-holds n e z = by-bool (someHolds (causesAt s k)) (λ t. t)
+      (λ t. absurd (z (e ∙ ap (λ (l : List Cause). first l .number) (causes-same s words bound k P h)
+      ∙ ap (λ (r : Refusal). r .number) (none-first (causesAt s k) t))))
+
+  -- refused at frame k
+  pub fault-checks : (n : ℕ) → n ≡ first (causesOf s k (bit bound)) .number → (n ≡ 0 → ⊥) → Checks (frameCauses s) s n k 0
+  unfolding frameCauses
+  fault-checks n e z =
+      let t = fault-holds n e z in
+      let below = holds-below s k (P .clean) t (frames s) h in
+      let f = first-earlier (causesBelow s (frames s)) (rootCauses s) below ∙ first-below s k (P .clean) t (frames s) h in
+      record {
+        number-is = e ∙ ap (λ (l : List Cause). first l .number) (causes-same s words bound k P h) ∙ ap (λ (r : Refusal). r .number) (sym f);
+        place-is = sym (ap (λ (r : Refusal). r .place) f ∙ byte-place _ _ _ _ k _ t);
+        free-is = rw (some-append (causesBelow s (frames s)) (rootCauses s), below);
+      }
+
+-- what the last frame's words say: a bound variable is free, and it is refused; or the word is the answer
+pub record RootChecks (word bound place number at free : ℕ) : Type 0 where
+  pub number-is : number ≡ cond (meet (bit bound) (bit word)) Number.boundFree 0
+  pub place-is : at ≡ cond (meet (bit bound) (bit word)) place 0
+  pub free-is : free ≡ cond (meet (bit bound) (bit word)) 0 word
+
+module _ (s words : List ℕ) (bound : ℕ) (P : Passed s words bound (frames s)) (h : 0 < frames s) where
+  abbrev word : ℕ
+  word = getD words (last s) 0
+
+  word-mask : word ≡ freeMask 32 (formula s (last s))
+  word-mask = P .frees (last s) (omega arith)
+
+  word-is : (v : ℕ) → bit word v ≡ free (formula s (last s)) v
+  word-is v = ap (λ (w : ℕ). bit w v) word-mask ∙ bit-free (ordered-bounded 32 (kind s) (clean-ordered s (P .clean)) (last s)) v
+
+  meet-is : meet (bit bound) (bit word) ≡ meet (boundBefore (kind s) (frames s)) (free (formula s (last s)))
+  meet-is = meet-same (bit bound) _ (bit word) _ (P .bounds) word-is
+
+  below-none : someHolds (causesBelow s (frames s)) ≡ false
+  below-none = clean-below s (frames s) (P .clean)
+
+  some-root : someHolds (frameCauses s) ≡ meet (bit bound) (bit word)
+  unfolding frameCauses someHolds
+  some-root = some-append (causesBelow s (frames s)) (rootCauses s) ∙ rw (below-none, meet-is, or-false)
+
+  first-root : first (frameCauses s) ≡ first (rootCauses s)
+  unfolding frameCauses
+  first-root = first-later (causesBelow s (frames s)) (rootCauses s) below-none
+
+  -- no cause holds at any frame
+  pub root-checks : (n p f : ℕ) → RootChecks word bound (last s) n p f → Checks (frameCauses s) s n p f
+  unfolding first
+  root-checks n p f r = by-bool (meet (bit bound) (bit word))
+      (λ t. record {
+        number-is = r .number-is ∙ rw (first-root, ← meet-is, t);
+        place-is = r .place-is ∙ rw (first-root, ← meet-is, t);
+        free-is = r .free-is ∙ rw (some-root, t);
+      })
+      (λ t. record {
+        number-is = r .number-is ∙ rw (first-root, ← meet-is, t);
+        place-is = r .place-is ∙ rw (first-root, ← meet-is, t);
+        free-is = r .free-is ∙ rw (some-root, t) word-mask;
+      })
+
+-- the same where the code has counted k of n frames
+pub root-read : (s words : List ℕ) (bound k n : ℕ) → Passed s words bound k → n ≡ frames s → 0 < n → n ≤ k → (m p f : ℕ)
+    → RootChecks (getD words (n - 1) 0) bound (n - 1) m p f → Checks (frameCauses s) s m p f
+root-read s words bound k n P e z l m p f r =
+    let q : k ≡ frames s = omega (arith, P .within) in
+    root-checks s words bound (subst (Passed s words bound) q P) (omega arith) m p f
+    (subst (λ (j : ℕ). RootChecks (getD words (j - 1) 0) bound (j - 1) m p f) e r)
+
+-- ---- the size first, then the frames
+
+module _ (s : List ℕ) where
+  pub size-none : (n : ℕ) → n ≡ first (sizeCauses s) .number → n ≡ 0 → someHolds (sizeCauses s) ≡ false
+  size-none n e z = first-none (sizeCauses s) (size-numbered s) (sym e ∙ z)
+
+  pub size-checks : (n : ℕ) → n ≡ first (sizeCauses s) .number → (n ≡ 0 → ⊥) → Checks (sheetCauses s) s n 0 0
+  unfolding lengthCauses
+  size-checks n e z =
+      let t : someHolds (sizeCauses s) ≡ true = by-bool (someHolds (sizeCauses s)) (λ t. t)
+      (λ t. absurd (z (e ∙ ap (λ (r : Refusal). r .number) (none-first (sizeCauses s) t)))) in
+      let f = first-earlier (sizeCauses s) (frameCauses s) t in
+      record {
+        number-is = e ∙ ap (λ (r : Refusal). r .number) (sym f);
+        place-is = sym (ap (λ (r : Refusal). r .place) f ∙ place-of (sizeCauses s) 0 (refl, (refl, tt)) t);
+        free-is = rw (some-append (sizeCauses s) (frameCauses s), t);
+      }
+
+  pub frames-check : someHolds (sizeCauses s) ≡ false → (n p f : ℕ) → Checks (frameCauses s) s n p f → Checks (sheetCauses s) s n p f
+  frames-check t n p f c =
+      let e = first-later (sizeCauses s) (frameCauses s) t in
+      record {
+        number-is = c .number-is ∙ ap (λ (r : Refusal). r .number) (sym e);
+        place-is = c .place-is ∙ ap (λ (r : Refusal). r .place) (sym e);
+        free-is = c .free-is ∙ rw (some-append (sizeCauses s) (frameCauses s), t);
+      }

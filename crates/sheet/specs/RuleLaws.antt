@@ -1,0 +1,173 @@
+-- What it means that no cause holds: of a frame, and of the frames below one. Assumes nothing.
+use Prim.Native.Nat.{ℕ, zero, suc, _+_, _*_, _≤_, _<_}
+use native.Mathlib.Omega.{arith}
+use mathlib.Core.Path.{_≡_, refl, sym, _∙_, ap, subst}
+use mathlib.Core.Bool.{Bool, true, false, _&&_, _||_}
+use mathlib.Core.List.{List}
+use lib.ListN.{getD}
+use lib.Dec.{eqb, leb, ltb}
+use borrow.Author.Tests.{ne-eqb, le-ltb}
+use Rattle.words.specs.Logic.{by-bool, clash, and-both, or-false, or-left, or-right, or-cases, tests}
+use Rattle.formula.specs.Assignment.{within}
+use Rattle.sheet.specs.Cause.{someHolds, Numbered, some-append, numbered-append}
+use Rattle.sheet.specs.Frames.{frames, kindOf, kind, Fit, OrderedBelow, kind-at}
+use Rattle.sheet.specs.Rules.{someBelow, used, spareSet, names, someLate, badRange, badVariables, binds, boundBefore, meet, lengthCauses, sizeCauses, byteCauses, causesAt, causesBelow, rootCauses, frameCauses, sheetCauses}
+use Rattle.sheet.specs.declared.Kind.{Kind}
+use Rattle.sheet.specs.declared.Kind.the-variants.{Never, Input, Not, And, Or, Exists, Forall}
+
+-- ---- some number below n
+
+pub some-below : (n : ℕ) (p : ℕ → Bool) (v : ℕ) → v < n → p v ≡ true → someBelow n p ≡ true
+unfolding someBelow
+some-below zero p v h e = absurd (omega arith)
+some-below (suc n) p v h e = by-bool (eqb v n)
+    (λ q. or-right (someBelow n p) (p n) (ap p (sym (let w : v ≡ n = omega tests in w)) ∙ e))
+    (λ q. or-left (someBelow n p) (p n) (some-below n p v (omega tests) e))
+
+pub none-below : (n : ℕ) (p : ℕ → Bool) → someBelow n p ≡ false → (v : ℕ) → v < n → p v ≡ false
+none-below n p e v h = by-bool (p v) (λ t. clash (someBelow n p) (some-below n p v h t) e) (λ t. t)
+
+pub below-none : (n : ℕ) (p : ℕ → Bool) → ((v : ℕ) → v < n → p v ≡ false) → someBelow n p ≡ false
+unfolding someBelow
+below-none zero p h = refl
+below-none (suc n) p h = rw (below-none n p (λ v l. h v (omega arith)), h n (omega arith))
+
+-- ---- variables that are bound before a frame
+
+pub bound-by : (κ : ℕ → Kind) (k j v : ℕ) → j < k → binds (κ j) v ≡ true → boundBefore κ k v ≡ true
+unfolding boundBefore
+bound-by κ zero j v h e = absurd (omega arith)
+bound-by κ (suc k) j v h e = by-bool (eqb j k)
+    (λ q. or-right (boundBefore κ k v) (binds (κ k) v) (ap (λ (i : ℕ). binds (κ i) v) (sym (let w : j ≡ k = omega tests in w)) ∙ e))
+    (λ q. or-left (boundBefore κ k v) (binds (κ k) v) (bound-by κ k j v (omega tests) e))
+
+pub by-bound : (κ : ℕ → Kind) (k v : ℕ) → boundBefore κ k v ≡ true → (j : ℕ) × (j < k) × (binds (κ j) v ≡ true)
+unfolding boundBefore
+by-bound κ zero v e = clash false e refl
+by-bound κ (suc k) v e = or-cases (boundBefore κ k v) (binds (κ k) v) e
+    (λ t. let r = by-bound κ k v t in (r .0, omega (arith, r .1), r .2))
+    (λ t. (k, omega arith, t))
+
+-- ---- ranges of variables
+
+pub range-fits : (b c : ℕ) → badRange b c ≡ false → (1 ≤ c) × (c ≤ 32) × (b + c ≤ 32)
+unfolding badRange
+range-fits b c e =
+    let p = or-false (eqb c 0) (ltb 32 c || ltb 32 (b + c)) e in
+    let q = or-false (ltb 32 c) (ltb 32 (b + c)) (p .1) in
+    (omega (tests, p .0), omega (tests, q .0), omega (tests, q .1))
+
+pub fits-range : (b c : ℕ) → 1 ≤ c → c ≤ 32 → b + c ≤ 32 → badRange b c ≡ false
+unfolding badRange
+fits-range b c l m h = rw (ne-eqb c 0 (λ e. omega arith), le-ltb 32 c m, le-ltb 32 (b + c) h)
+
+range-low : (b c v : ℕ) → badRange b c ≡ false → within b c v ≡ true → v < 32
+unfolding within
+range-low b c v g e = omega (tests, and-both (leb b v) (ltb v (b + c)) e .1, range-fits b c g .2)
+
+-- a variable that is bound is one of the sheet's
+pub binds-low : (d : Kind) (v : ℕ) → badVariables d ≡ false → binds d v ≡ true → v < 32
+unfolding badVariables binds
+binds-low Never v g e = clash false e refl
+binds-low (Input x) v g e = clash false e refl
+binds-low (Not a) v g e = clash false e refl
+binds-low (And a b) v g e = clash false e refl
+binds-low (Or a b) v g e = clash false e refl
+binds-low (Exists a b c) v g e = range-low b c v g e
+binds-low (Forall a b c) v g e = range-low b c v g e
+
+-- ---- sets of variables
+
+pub meet-none : (p q : ℕ → Bool) → ((v : ℕ) → v < 32 → p v ≡ true → q v ≡ true → ⊥) → meet p q ≡ false
+unfolding meet
+meet-none p q h =
+    below-none 32 (λ v. p v && q v) (λ v l. by-bool (p v && q v) (λ e. let b = and-both (p v) (q v) e in absurd (h v l (b .0) (b .1))) (λ e. e))
+
+pub none-meet : (p q : ℕ → Bool) → meet p q ≡ false → (v : ℕ) → v < 32 → p v ≡ true → q v ≡ false
+unfolding meet
+none-meet p q e v l h = ap (λ (t : Bool). t && q v) (sym h) ∙ none-below 32 (λ v. p v && q v) e v l
+
+-- ---- frames
+
+one-late : (k a : ℕ) → (leb k a || false) ≡ false → a < k
+one-late k a e = omega (tests, or-false (leb k a) false e .0)
+
+two-late : (k a b : ℕ) → (leb k a || (leb k b || false)) ≡ false → (a < k) × (b < k)
+two-late k a b e = let p = or-false (leb k a) (leb k b || false) e in (omega (tests, p .0), one-late k b (p .1))
+
+pub fit-kind : (k : ℕ) (d : Kind) → someLate k (names d) ≡ false → badVariables d ≡ false → Fit 32 k d
+unfolding someLate names badVariables
+fit-kind k Never e g = tt
+fit-kind k (Input x) e g = omega (tests, g)
+fit-kind k (Not a) e g = one-late k a e
+fit-kind k (And a b) e g = two-late k a b e
+fit-kind k (Or a b) e g = two-late k a b e
+fit-kind k (Exists a b c) e g = (one-late k a e, range-fits b c g .2)
+fit-kind k (Forall a b c) e g = (one-late k a e, range-fits b c g .2)
+
+-- a frame at which no cause holds
+pub record Clean (code a b c k : ℕ) (p : ℕ → Bool) : Type 0 where
+  pub known : ltb 6 code ≡ false
+  pub spare : spareSet (used (kindOf code a b c)) a b c ≡ false
+  pub earlier : someLate k (names (kindOf code a b c)) ≡ false
+  pub variable : badVariables (kindOf code a b c) ≡ false
+  pub once : meet (binds (kindOf code a b c)) p ≡ false
+
+module _ (code a b c k : ℕ) (p : ℕ → Bool) where
+  pub none-clean : someHolds (byteCauses code a b c k p) ≡ false → Clean code a b c k p
+  unfolding someHolds byteCauses
+  none-clean e =
+      let d = kindOf code a b c in
+      let e6 = or-false (ltb 6 code) _ e in
+      let e7 = or-false (spareSet (used d) a b c) _ (e6 .1) in
+      let e8 = or-false (someLate k (names d)) _ (e7 .1) in
+      let e9 = or-false (badVariables d) _ (e8 .1) in
+      let e10 = or-false (meet (binds d) p) _ (e9 .1) in
+      record { known = e6 .0; spare = e7 .0; earlier = e8 .0; variable = e9 .0; once = e10 .0 }
+
+  pub clean-none : Clean code a b c k p → someHolds (byteCauses code a b c k p) ≡ false
+  unfolding someHolds byteCauses
+  clean-none g = rw (g .known, g .spare, g .earlier, g .variable, g .once)
+
+  pub byte-numbered : Numbered (byteCauses code a b c k p)
+  unfolding byteCauses
+  byte-numbered = (omega arith, (omega arith, (omega arith, (omega arith, (omega arith, tt)))))
+
+abbrev pub CleanAt : List ℕ → ℕ → Type 0
+CleanAt s k = Clean (getD s (k * 4) 0) (getD s (k * 4 + 1) 0) (getD s (k * 4 + 2) 0) (getD s (k * 4 + 3) 0) k (boundBefore (kind s) k)
+
+module _ (s : List ℕ) where
+  pub below-clean : (k : ℕ) → someHolds (causesBelow s k) ≡ false → (j : ℕ) → j < k → CleanAt s j
+  unfolding causesBelow
+  below-clean zero e j h = absurd (omega arith)
+  below-clean (suc k) e j h =
+      let p = or-false (someHolds (causesBelow s k)) (someHolds (causesAt s k)) (sym (some-append (causesBelow s k) (causesAt s k)) ∙ e) in
+      by-bool (eqb j k)
+      (λ q. let w : j ≡ k = omega tests in subst (CleanAt s) (sym w) (none-clean _ _ _ _ k _ (p .1)))
+      (λ q. below-clean k (p .0) j (omega tests))
+
+  pub clean-below : (k : ℕ) → ((j : ℕ) → j < k → CleanAt s j) → someHolds (causesBelow s k) ≡ false
+  unfolding causesBelow someHolds
+  clean-below zero h = refl
+  clean-below (suc k) h =
+      some-append (causesBelow s k) (causesAt s k) ∙ rw (clean-below k (λ j l. h j (omega arith)), clean-none _ _ _ _ k _ (h k (omega arith)))
+
+  -- the frames below a count name only earlier frames and only the sheet's variables
+  pub below-ordered : (k : ℕ) → k ≤ frames s → ((j : ℕ) → j < k → CleanAt s j) → OrderedBelow k 32 (kind s)
+  below-ordered k m h j l = subst (Fit 32 j) (sym (kind-at s j (omega arith))) (fit-kind j _ (h j l .earlier) (h j l .variable))
+
+  below-numbered : (k : ℕ) → Numbered (causesBelow s k)
+  unfolding causesBelow
+  below-numbered zero = tt
+  below-numbered (suc k) = numbered-append (causesBelow s k) (causesAt s k) (below-numbered k) (byte-numbered _ _ _ _ k _)
+
+  pub frame-numbered : Numbered (frameCauses s)
+  unfolding frameCauses
+  frame-numbered = numbered-append (causesBelow s (frames s)) (rootCauses s) (below-numbered (frames s)) (omega arith, tt)
+
+  pub size-numbered : Numbered (sizeCauses s)
+  unfolding lengthCauses
+  size-numbered = (omega arith, (omega arith, tt))
+
+  pub sheet-numbered : Numbered (sheetCauses s)
+  sheet-numbered = numbered-append (sizeCauses s) (frameCauses s) size-numbered frame-numbered

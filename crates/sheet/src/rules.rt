@@ -1,0 +1,277 @@
+// Whether a sheet keeps document 01's rules, and if not, the first cause in its order that holds.
+ghost use mathlib.Core.Path.{_≡_};
+ghost use mathlib.Core.Bool.{true, false};
+ghost use Prim.Native.Nat.{_+_, _*_, _<_};
+ghost use lib.ListN.{getD};
+ghost use Rattle.words.specs.Word.{bit};
+ghost use Rattle.sheet.specs.Cause.{first, someHolds};
+ghost use Rattle.sheet.specs.Frames.{frames, Fit};
+ghost use Rattle.sheet.specs.Rules as Rules;
+ghost use Rattle.sheet.specs.Rules.{lengthCauses, sizeCauses, byteCauses, causesOf, frameCauses, sheetCauses, someLate, names};
+ghost use Rattle.sheet.specs.RuleLaws.{CleanAt};
+ghost use Rattle.sheet.specs.Check.{boundMask, freeWord, variablesFault, Checks};
+ghost use Rattle.sheet.specs.Pass.{Passed, RootChecks};
+use crate::Kind;
+use crate::decode;
+use crate::kind_of;
+use crate::refusal;
+use crate::wide;
+use words::w32;
+
+// The refusal's number and place, 0 and 0 for none, and the free variables of the last frame.
+pub struct Checked {
+    pub number: u8,
+    pub place: u16,
+    pub free: u32,
+}
+
+// The cause that the length of a sheet gives, or 0.
+pub fn size_fault(len: usize) -> u8
+    ensures { λ r. ⌜ r ≡ first (lengthCauses len) .number ⌝ }
+{
+    if len == 0 {
+        return refusal::NOT_WHOLE;
+    }
+    if len % 4 != 0 {
+        return refusal::NOT_WHOLE;
+    }
+    if len / 4 > 200 {
+        return refusal::SHEET_TOO_LONG;
+    }
+    0
+}
+
+// How many of the bytes A B C a kind uses.
+fn used(kind: Kind) -> u8
+    ensures { λ r. ⌜ r ≡ Rules.used kind ⌝ }
+{
+    match kind {
+        Kind::Never => 0,
+        Kind::Input(_) => 1,
+        Kind::Not(_) => 1,
+        Kind::And(_, _) => 2,
+        Kind::Or(_, _) => 2,
+        Kind::Exists(_, _, _) => 3,
+        Kind::Forall(_, _, _) => 3,
+    }
+}
+
+// Whether the byte at a place of A B C is behind the first n, and not 0.
+fn spare_at(n: u8, place: u8, byte: u8) -> bool
+    ensures { λ r. ⌜ r ≡ Rules.spareAt n place byte ⌝ }
+{
+    if n <= place { byte != 0 } else { false }
+}
+
+// Whether one of the bytes behind the first n is not 0.
+fn spare_set(n: u8, a: u8, b: u8, c: u8) -> bool
+    ensures { λ r. ⌜ r ≡ Rules.spareSet n a b c ⌝ }
+{
+    if spare_at(n, 0, a) {
+        return true;
+    }
+    if spare_at(n, 1, b) {
+        return true;
+    }
+    spare_at(n, 2, c)
+}
+
+// Whether a frame of that number names one that is not earlier.
+fn some_late(kind: Kind, number: u16) -> bool
+    ensures { λ r. ⌜ r ≡ someLate number (names kind) ⌝ }
+{
+    match kind {
+        Kind::Never => false,
+        Kind::Input(_) => false,
+        Kind::Not(x) => number <= x,
+        Kind::And(x, y) => number <= x || number <= y,
+        Kind::Or(x, y) => number <= x || number <= y,
+        Kind::Exists(x, _, _) => number <= x,
+        Kind::Forall(x, _, _) => number <= x,
+    }
+}
+
+fn bad_range(b: u8, c: u8) -> bool
+    ensures { λ r. ⌜ r ≡ Rules.badRange b c ⌝ }
+{
+    if c == 0 {
+        return true;
+    }
+    if c > 32 {
+        return true;
+    }
+    wide(b) + wide(c) > 32
+}
+
+fn bad_variables(kind: Kind) -> bool
+    ensures { λ r. ⌜ r ≡ Rules.badVariables kind ⌝ }
+{
+    match kind {
+        Kind::Never => false,
+        Kind::Input(x) => x >= 32,
+        Kind::Not(_) => false,
+        Kind::And(_, _) => false,
+        Kind::Or(_, _) => false,
+        Kind::Exists(_, b, c) => bad_range(b, c),
+        Kind::Forall(_, b, c) => bad_range(b, c),
+    }
+}
+
+// The variables that a frame of this kind binds.
+fn bound_word(kind: Kind) -> u32
+    requires { ⌜ Rules.badVariables kind ≡ false ⌝ }
+    ensures { λ r. ⌜ r ≡ boundMask kind ⌝ }
+{
+    match kind {
+        Kind::Never => 0,
+        Kind::Input(_) => 0,
+        Kind::Not(_) => 0,
+        Kind::And(_, _) => 0,
+        Kind::Or(_, _) => 0,
+        Kind::Exists(_, b, c) => w32::range_mask(b, c),
+        Kind::Forall(_, b, c) => w32::range_mask(b, c),
+    }
+}
+
+// The first of the causes 9 and 10 that holds at a frame, or 0; bound are the variables that earlier frames bind.
+fn variables_fault(kind: Kind, bound: u32) -> u8
+    ensures { λ r. ⌜ r ≡ variablesFault kind (bit bound) ⌝ }
+{
+    if bad_variables(kind) {
+        return refusal::RANGE_BROKEN;
+    }
+    if bound_word(kind) & bound != 0 {
+        return refusal::BOUND_TWICE;
+    }
+    0
+}
+
+// The first of the causes 6 to 10 by the frame's bytes, or 0.
+fn frame_fault(code: u8, a: u8, b: u8, c: u8, number: u16, bound: u32) -> u8
+    ensures { λ r. ⌜ r ≡ first (byteCauses code a b c number (bit bound)) .number ⌝ }
+{
+    if code > 6 {
+        return refusal::KIND_UNKNOWN;
+    }
+    let kind = kind_of(code, a, b, c);
+    let spare = spare_set(used(kind), a, b, c);
+    let late = some_late(kind, number);
+    if spare {
+        return refusal::SPARE_USED;
+    }
+    if late {
+        return refusal::NOT_EARLIER;
+    }
+    variables_fault(kind, bound)
+}
+
+// The same for the frame of that number.
+fn fault_at(sheet: &[u8], number: usize, bound: u32) -> u8
+    requires { ⌜ (number < frames (now sheet)) × (number < 200) ⌝ }
+    ensures { λ r. ⌜ r ≡ first (causesOf (now (sheet .entry)) number (bit bound)) .number ⌝ }
+{
+    let at = number * 4;
+    let place = number as u16;
+    frame_fault(
+        sheet[at],
+        sheet[at + 1],
+        sheet[at + 2],
+        sheet[at + 3],
+        place,
+        bound,
+    )
+}
+
+// The free variables of an earlier frame.
+fn word_at(free: &[u32; 200], number: u16) -> u32
+    requires { ⌜ number < 200 ⌝ }
+    ensures { λ r. ⌜ r ≡ getD (now (free .entry)) number 0 ⌝ }
+{
+    let i = number as usize;
+    free[i]
+}
+
+// The free variables of a frame of this kind, from those of the frames before it.
+fn free_word(kind: Kind, free: &[u32; 200]) -> u32
+    requires { ⌜ Fit 32 200 kind ⌝ }
+    ensures { λ r. ⌜ r ≡ freeWord (now (free .entry)) kind ⌝ }
+{
+    match kind {
+        Kind::Never => 0,
+        Kind::Input(x) => w32::one(x),
+        Kind::Not(x) => word_at(free, x),
+        Kind::And(x, y) => word_at(free, x) | word_at(free, y),
+        Kind::Or(x, y) => word_at(free, x) | word_at(free, y),
+        Kind::Exists(x, b, c) => w32::without(word_at(free, x), w32::range_mask(b, c)),
+        Kind::Forall(x, b, c) => w32::without(word_at(free, x), w32::range_mask(b, c)),
+    }
+}
+
+// Frame k, at which no cause holds: its free variables go into the table, and what is bound so far is given back.
+fn pass(sheet: &[u8], k: usize, words: &mut [u32; 200], bound: u32) -> u32
+    requires { ⌜ Passed (now sheet) (now words) bound k × ((k < frames (now sheet)) × CleanAt (now sheet) k) ⌝ }
+    ensures { λ r. ⌜ Passed (now (sheet .entry)) (now (words .exit)) r (k + 1) ⌝ }
+{
+    let frame = decode(sheet, k);
+    let kind = frame.kind;
+    let word = free_word(kind, words);
+    words[k] = word;
+    bound | bound_word(kind)
+}
+
+// The answer of a refusal.
+fn refused(number: u8, place: u16) -> Checked
+    ensures { λ r. ⌜ (r .number ≡ number) × (r .place ≡ place) × (r .free ≡ 0) ⌝ }
+{
+    Checked {
+        number,
+        place,
+        free: 0,
+    }
+}
+
+// The answer where no cause holds at a frame: the last frame's free variables are word.
+fn root_answer(word: u32, bound: u32, place: u16) -> Checked
+    ensures { λ r. ⌜ RootChecks word bound place (r .number) (r .place) (r .free) ⌝ }
+{
+    if bound & word != 0 {
+        return refused(refusal::BOUND_FREE, place);
+    }
+    Checked {
+        number: 0,
+        place: 0,
+        free: word,
+    }
+}
+
+// The frames of a sheet of a right size, in one pass. `pub` for a run, which looks at its script between size and frames.
+pub fn check_frames(sheet: &[u8]) -> Checked
+    requires { ⌜ someHolds (sizeCauses (now sheet)) ≡ false ⌝ }
+    ensures { λ r. ⌜ Checks (frameCauses (now (sheet .entry))) (now (sheet .entry)) (r .number) (r .place) (r .free) ⌝ }
+{
+    let n = sheet.len() / 4;
+    let mut words = [0u32; 200];
+    let mut bound: u32 = 0;
+    let mut k: usize = 0;
+    while k < n {
+        let number = fault_at(sheet, k, bound);
+        if number != 0 {
+            return refused(number, k as u16);
+        }
+        bound = pass(sheet, k, &mut words, bound);
+        k += 1;
+    }
+    let last = n - 1;
+    root_answer(words[last], bound, last as u16)
+}
+
+// The check of any bytes as a sheet.
+pub fn check(sheet: &[u8]) -> Checked
+    ensures { λ r. ⌜ Checks (sheetCauses (now (sheet .entry))) (now (sheet .entry)) (r .number) (r .place) (r .free) ⌝ }
+{
+    let number = size_fault(sheet.len());
+    if number != 0 {
+        return refused(number, 0);
+    }
+    check_frames(sheet)
+}

@@ -1,0 +1,10 @@
+pub mod Contract
+pub mod Frames
+pub mod Lookahead
+pub mod Judge
+pub mod JudgeLaws
+pub mod Search
+pub mod SearchLaws
+pub mod Ask
+pub mod Why
+pub mod LookaheadLaws

@@ -1,0 +1,23 @@
+-- `text::hex::digit_byte` meets its contract: each return has the test that led there. Assumes nothing.
+use borrow.Author.Needs.{needs}
+use borrow.Author.Tests.{lt-ltb, le-ltb}
+use Rattle.text.specs.Hex.{digitByte}
+use Rattle.text.proofs.hex.digit_byte.Statement.{statement}
+use Rattle.text.proofs.hex.digit_byte.Tie as tie
+
+add-result : tie.Need-add-result
+add-result c = search needs
+
+returns : tie.Need-returns
+unfolding digitByte
+returns c = rw (lt-ltb _ _ (c .if1 .taken))
+
+add-result-2 : tie.Need-add-result-2
+add-result-2 c = search needs
+
+returns-2 : tie.Need-returns-2
+unfolding digitByte
+returns-2 c = rw (le-ltb _ _ (c .if1 .left))
+
+pub digit-byte-spec : {M : Type 1} → statement M
+digit-byte-spec = tie.close (tie.spec add-result returns add-result-2 returns-2)

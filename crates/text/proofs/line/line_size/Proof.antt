@@ -1,0 +1,50 @@
+-- `text::line::line_size` meets its contract: the tests on the digits and on the line's end decide. Assumes nothing.
+use borrow.Author.Needs.{needs}
+use Prim.Native.Nat.{_+_}
+use native.Mathlib.Omega.{arith}
+use mathlib.Core.Path.{sym, _∙_}
+use lib.ListN.{drop, length-drop}
+use borrow.Author.Tests.{not-true, not-false}
+use Rattle.text.specs.Line.{lineDigits}
+use Rattle.text.specs.LineLaws.{drop-more, ending-within, size-no-digits, size-no-end, size-line}
+use Rattle.text.proofs.line.line_size.Statement.{statement}
+use Rattle.text.proofs.line.line_size.Tie as tie
+
+digits-requires : tie.Need-digits-requires
+digits-requires c κs = search needs
+
+returns : tie.Need-returns
+returns c = sym (size-no-digits _ (sym (c .before .digits .ensures) ∙ not-true _ (c .if1 .taken)))
+
+add-ending : tie.Need-add-ending
+add-ending c = search needs
+
+ending-requires : tie.Need-ending-requires
+ending-requires c κs = search needs
+
+returns-2 : tie.Need-returns-2
+returns-2 c =
+    let d = sym (c .before .before .before .digits .ensures) ∙ not-false _ (c .before .before .if1 .left) in
+    sym (size-no-end _ d _ (c .before .ending .ensures ∙ rw (drop-more lineDigits)) (c .if2 .taken))
+
+add-result : tie.Need-add-result
+add-result c =
+    let a = c .before .before .before .before .before .args in
+    omega (arith, c .before .ending .ensures, ending-within (drop (a .at + lineDigits) (a .text .now)), length-drop (a .at + lineDigits) (a .text .now), c .before .before .before .before .before .good .0)
+
+returns-3 : tie.Need-returns-3
+returns-3 c =
+    let d = sym (c .before .before .before .digits .ensures) ∙ not-false _ (c .before .before .if1 .left) in
+    sym (size-line _ d _ (c .before .ending .ensures ∙ rw (drop-more lineDigits)) (omega (arith, c .if2 .left)))
+
+pub line-size-spec : {M : Type 1} → statement M
+line-size-spec =
+    tie.close
+    (tie.spec
+    digits-requires
+    returns
+    add-ending
+    ending-requires
+    returns-2
+    add-result
+    returns-3)

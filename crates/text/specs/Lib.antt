@@ -1,0 +1,10 @@
+pub mod Hex
+pub mod Line
+pub mod Stores
+pub mod LineLaws
+pub mod Reading
+pub mod ReadingLaws
+pub mod Answer
+pub mod AnswerLaws
+pub mod RoundTrip
+pub mod Prefix

@@ -1,0 +1,179 @@
+-- What reading lines comes to, step by step: the laws that the code goes by. Assumes nothing.
+use Prim.Native.Nat.{ℕ, zero, suc, _+_, _*_, _≤_, _<_}
+use native.Mathlib.Omega.{arith}
+use native.Mathlib.Nat.{add-zero}
+use native.Mathlib.Numerals.{add-one}
+use mathlib.Core.Bool.{Bool, true, false, _&&_}
+use mathlib.Core.List.{List, [], _∷_}
+use mathlib.Core.Path.{_≡_, refl, sym, ap, _∙_}
+use lib.Dec.{eqb, ltb}
+use lib.ListN.{length, getD, set, drop, length-append, length-drop}
+use lib.Seq.{sets, getD-drop, drop-drop}
+use borrow.Author.Tests.{ltb-true, ltb-false, lt-ltb, le-ltb}
+use Rattle.text.specs.Stores.{sets-append}
+use Rattle.text.specs.Hex.{digitValue, lineFeed}
+use Rattle.text.specs.Line.{head, ending, digits, lineDigits, frameBytes, lineSize, byteHere, bytes, TwoDigits, Lines, noLines, lineThen, lines}
+
+pub by-bool {ℓ} : {A : Type ℓ} (t : Bool) → (t ≡ true → A) → (t ≡ false → A) → A
+by-bool true f g = f refl
+by-bool false f g = g refl
+
+and-both : (a b : Bool) → a && b ≡ true → (a ≡ true) × (b ≡ true)
+and-both true b e = (refl, e)
+and-both false b e = let z : _≡_ {A = ℕ} 0 1 = cc in absurd (omega arith)
+
+pub head-drop : (at : ℕ) (l : List ℕ) → head (drop at l) ≡ getD l at 0
+head-drop at l = getD-drop at l 0 0 ∙ ap (λ (k : ℕ). getD l k 0) (add-zero at)
+
+pub drop-more : (n at : ℕ) (l : List ℕ) → drop n (drop at l) ≡ drop (at + n) l
+drop-more n at l = drop-drop n at l
+
+-- ---- digits
+
+module _ (n : ℕ) (l : List ℕ) (d : ℕ) (e : d ≡ digitValue (head l)) where
+  pub digits-stop : 16 ≤ d → digits (suc n) l ≡ false
+  unfolding digits
+  digits-stop h = rw (← e, le-ltb d 16 h)
+
+  pub digits-go : d < 16 → digits (suc n) l ≡ digits n (drop 1 l)
+  unfolding digits
+  digits-go h = rw (← e, lt-ltb d 16 h)
+
+pub digits-none : (l : List ℕ) → digits 0 l ≡ true
+unfolding digits
+digits-none l = refl
+
+pub digits-two : (n : ℕ) (l : List ℕ) → digits (suc (suc n)) l ≡ true → TwoDigits l × (digits n (drop 2 l) ≡ true)
+unfolding digits
+digits-two n l e =
+    let a = and-both (ltb (digitValue (head l)) 16) (digits (suc n) (drop 1 l)) e in
+    let b = and-both (ltb (digitValue (head (drop 1 l))) 16) (digits n (drop 1 (drop 1 l))) (a .1) in
+    (record { high = ltb-true _ _ (a .0); low = ltb-true _ _ (b .0) }, rw (drop-more 1 1 l) at (b .1))
+
+-- ---- a line's size
+
+pub ending-within : (l : List ℕ) → ending l ≤ length l
+unfolding ending
+ending-within [] = omega arith
+ending-within (b ∷ l) = by-bool (eqb b lineFeed) (λ e. rw e (omega arith)) (λ e. rw e (omega arith))
+
+pub size-no-digits : (l : List ℕ) → digits lineDigits l ≡ false → lineSize l ≡ 0
+unfolding lineSize
+size-no-digits l e = rw e
+
+module _ (l : List ℕ) (d : digits lineDigits l ≡ true) (n : ℕ) (e : n ≡ ending (drop lineDigits l)) where
+  pub size-no-end : n ≡ 0 → lineSize l ≡ 0
+  unfolding lineSize
+  size-no-end z = rw (d, ← e, z)
+
+  pub size-line : 0 < n → lineSize l ≡ lineDigits + n
+  unfolding lineSize
+  size-line h = rw (d, ← e, lt-ltb 0 n h)
+
+pub size-shape : (l : List ℕ) → 0 < lineSize l → (digits lineDigits l ≡ true) × (lineSize l ≡ lineDigits + ending (drop lineDigits l))
+unfolding lineSize
+size-shape l h =
+    by-bool (digits lineDigits l && ltb 0 (ending (drop lineDigits l)))
+    (λ t. (and-both (digits lineDigits l) (ltb 0 (ending (drop lineDigits l))) t .0, rw t))
+    (λ f. let z : 0 < 0 = rw f at h in absurd (omega arith))
+
+-- a line lies within the text
+pub size-within : (l : List ℕ) → lineSize l ≤ length l
+unfolding lineSize
+size-within l =
+    by-bool (digits lineDigits l && ltb 0 (ending (drop lineDigits l)))
+    (λ t. rw t
+    (let e : 0 < ending (drop lineDigits l) = ltb-true _ _ (and-both (digits lineDigits l) (ltb 0 (ending (drop lineDigits l))) t .1) in
+    omega (arith, ending-within (drop lineDigits l), length-drop lineDigits l)))
+    (λ f. rw f (omega arith))
+
+-- ---- the bytes of a frame
+
+pub bytes-length : (n : ℕ) (l : List ℕ) → length (bytes n l) ≡ n
+unfolding bytes
+bytes-length zero l = refl
+bytes-length (suc n) l = ap suc (bytes-length n (drop 2 l))
+
+pub bytes-none : (l : List ℕ) → bytes 0 l ≡ []
+unfolding bytes
+bytes-none l = refl
+
+pub bytes-put : (n at : ℕ) (text out : List ℕ) (to b : ℕ) → b ≡ byteHere (drop at text)
+    → sets out to (bytes (suc n) (drop at text)) ≡ sets (set out to b) (to + 1) (bytes n (drop (at + 2) text))
+unfolding bytes
+bytes-put n at text out to b e = rw (← e, drop-more 2 at text, add-one to)
+
+-- ---- lines in a row
+
+module _ (n : ℕ) (l : List ℕ) where
+  pub lines-more : 0 < lineSize l → lines (suc n) l ≡ lineThen l (lines n (drop (lineSize l) l))
+  unfolding lines
+  lines-more h = rw (lt-ltb 0 (lineSize l) h)
+
+  pub lines-stop : lineSize l ≡ 0 → lines (suc n) l ≡ noLines l
+  unfolding lines
+  lines-stop e = rw e
+
+pub lines-none : (l : List ℕ) → lines 0 l ≡ noLines l
+unfolding lines
+lines-none l = refl
+
+-- the text behind a line at a place of it
+module _ (text : List ℕ) (at size : ℕ) (e : size ≡ lineSize (drop at text)) where
+  pub next-line : drop (lineSize (drop at text)) (drop at text) ≡ drop (at + size) text
+  next-line = ap (λ (k : ℕ). drop k (drop at text)) (sym e) ∙ drop-more size at text
+
+  pub next-within : at ≤ length text → at + size ≤ length text
+  next-within h = omega (arith, size-within (drop at text), length-drop at text)
+
+  pub lines-turn : (n : ℕ) → 0 < size → lines (suc n) (drop at text) ≡ lineThen (drop at text) (lines n (drop (at + size) text))
+  lines-turn n h = lines-more n (drop at text) (omega arith) ∙ ap (λ (l : List ℕ). lineThen (drop at text) (lines n l)) next-line
+
+-- where as many lines stand as were asked for, the first is one
+pub first-line : (n : ℕ) (l : List ℕ) → lines (suc n) l .count ≡ suc n → 0 < lineSize l
+first-line n l e =
+    by-bool (ltb 0 (lineSize l)) (ltb-true 0 (lineSize l))
+    (λ f. let z : lineSize l ≡ 0 = omega (arith, ltb-false 0 (lineSize l) f) in
+    let c : lines (suc n) l .count ≡ 0 = ap (λ (k : Lines). k .count) (lines-stop n l z) in absurd (omega arith))
+
+-- its digits lie within the text
+pub line-digits : (l : List ℕ) → 0 < lineSize l → lineDigits ≤ length l
+line-digits l h = omega (arith, size-shape l h .1, size-within l)
+
+-- and behind it stand the others; its frame is stored, and then theirs
+module _ (text : List ℕ) (at size : ℕ) (e : size ≡ lineSize (drop at text)) (n : ℕ) (all : lines (suc n) (drop at text) .count ≡ suc n) where
+  turn : lines (suc n) (drop at text) ≡ lineThen (drop at text) (lines n (drop (at + size) text))
+  turn = lines-turn text at size e n (omega (arith, first-line n (drop at text) all))
+
+  pub other-lines : lines n (drop (at + size) text) .count ≡ n
+  other-lines = omega (arith, ap (λ (k : Lines). k .count) turn)
+
+  pub frames-put : (out : List ℕ) (to : ℕ)
+      → sets out to (lines (suc n) (drop at text) .frames) ≡ sets (sets out to (bytes frameBytes (drop at text))) (to + frameBytes) (lines n (drop (at + size) text) .frames)
+  frames-put out to =
+      ap (λ (k : Lines). sets out to (k .frames)) turn
+      ∙ sets-append (bytes frameBytes (drop at text)) _ out to
+      ∙ ap (λ (k : ℕ). sets (sets out to (bytes frameBytes (drop at text))) (to + k) (lines n (drop (at + size) text) .frames)) (bytes-length frameBytes (drop at text))
+
+pub count-most : (n : ℕ) (l : List ℕ) → lines n l .count ≤ n
+unfolding lines
+count-most zero l = omega arith
+count-most (suc n) l =
+    by-bool (ltb 0 (lineSize l)) (λ t. rw t (omega (arith, count-most n (drop (lineSize l) l)))) (λ f. rw f (omega arith))
+
+-- asking for just the lines that there are
+pub lines-count : (n : ℕ) (l : List ℕ) → lines (lines n l .count) l ≡ lines n l
+unfolding lines
+lines-count zero l = refl
+lines-count (suc n) l =
+    by-bool (ltb 0 (lineSize l)) (λ t. rw (t, t) (ap (lineThen l) (lines-count n (drop (lineSize l) l)))) (λ f. rw f)
+
+pub frames-length : (n : ℕ) (l : List ℕ) → length (lines n l .frames) ≡ lines n l .count * frameBytes
+unfolding lines
+frames-length zero l = refl
+frames-length (suc n) l =
+    by-bool (ltb 0 (lineSize l))
+    (λ t. rw t
+    (length-append (bytes frameBytes l) (lines n (drop (lineSize l) l) .frames)
+    ∙ omega (arith, bytes-length frameBytes l, frames-length n (drop (lineSize l) l))))
+    (λ f. rw f)

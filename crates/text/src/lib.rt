@@ -1,0 +1,90 @@
+// The text form: a sheet and a script read from lines of hexadecimal digits, and answers written as such lines.
+mod answer;
+mod frame;
+mod hex;
+mod layout;
+mod line;
+
+use layout::Layout;
+ghost use mathlib.Core.Path.{_≡_};
+ghost use Rattle.text.specs.Reading.{Read};
+ghost use Rattle.text.specs.Answer.{Wrote, answerLine};
+
+// What reading a text gives: a refusal's number or 0, and how many bytes of a sheet and of a script it wrote, 0 if refused.
+pub struct Parsed {
+    pub refusal: u8,
+    pub sheet: usize,
+    pub script: usize,
+}
+
+// The least lengths of the buffers.
+const SHEET_BYTES: usize = layout::SHEET_FRAMES * frame::BYTES;
+
+const SCRIPT_BYTES: usize = layout::SCRIPT_FRAMES * frame::BYTES;
+
+const NO_ROOM: u8 = 5;
+
+// A refusal: nothing is written.
+fn refused(number: u8) -> Parsed
+    ensures { λ r. ⌜ (r .refusal ≡ number) × (r .sheet ≡ 0) × (r .script ≡ 0) ⌝ }
+{
+    Parsed {
+        refusal: number,
+        sheet: 0,
+        script: 0,
+    }
+}
+
+// Reads a text into the two buffers. Nothing is written before all of the text is known to be right.
+pub fn read(text: &[u8], sheet: &mut [u8], script: &mut [u8]) -> Parsed
+    ensures { λ r. ⌜ Read (now (text .entry)) (now (sheet .entry)) (now (script .entry)) r (now (sheet .exit)) (now (script .exit)) ⌝ }
+{
+    if sheet.len() < SHEET_BYTES {
+        return refused(NO_ROOM);
+    }
+    if script.len() < SCRIPT_BYTES {
+        return refused(NO_ROOM);
+    }
+    match layout::scan(text) {
+        Layout::Refused(number) => refused(number),
+        Layout::Accepted {
+            sheet: lines,
+            start,
+            script: more,
+        } => {
+            frame::put_frames(text, 0, lines, sheet);
+            frame::put_frames(text, start, more, script);
+            Parsed {
+                refusal: 0,
+                sheet: lines * frame::BYTES,
+                script: more * frame::BYTES,
+            }
+        }
+    }
+}
+
+// The line of an answer: twelve digits and 0A.
+pub fn answer_line(number: u8, v: u8, word: u32) -> [u8; 13]
+    ensures { λ r. ⌜ r ≡ answerLine number v word ⌝ }
+{
+    answer::hex_line(
+        number,
+        v,
+        answer::low_byte(word / 16777216),
+        answer::low_byte(word / 65536),
+        answer::low_byte(word / 256),
+        answer::low_byte(word),
+    )
+}
+
+// Writes the lines of as many answers as are whole and have room, and says how many bytes that are.
+pub fn answer_lines(answers: &[u8], out: &mut [u8]) -> usize
+    ensures { λ r. ⌜ Wrote (now (answers .entry)) (now (out .entry)) r (now (out .exit)) ⌝ }
+{
+    let n = answer::lesser(
+        answers.len() / answer::BYTES,
+        out.len() / answer::LINE_BYTES,
+    );
+    answer::put_lines(answers, n, out);
+    n * answer::LINE_BYTES
+}

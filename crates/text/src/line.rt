@@ -1,0 +1,86 @@
+// The lines of a text: where they end, and how many stand in a row. What ends a line is told by `ending` alone.
+ghost use mathlib.Core.Path.{_≡_};
+ghost use Prim.Native.Nat.{_+_, _≤_, _<_};
+ghost use lib.ListN.{length, drop};
+ghost use Rattle.text.specs.Line.{head, ending, digits, lineSize, LinesAt};
+use crate::frame::BYTES;
+use crate::hex::digit_value;
+
+// Two for each byte of a frame.
+const DIGITS: usize = 2 * BYTES;
+
+// Lines in a row: how many, and where they end.
+pub struct Counted {
+    pub count: usize,
+    pub end: usize,
+}
+
+// The byte at a place, 0 past the end.
+pub fn byte_at(text: &[u8], at: usize) -> u8
+    ensures { λ r. ⌜ r ≡ head (drop at (now (text .entry))) ⌝ }
+{
+    if at < text.len() {
+        return text[at];
+    }
+    0
+}
+
+// How many bytes at a place end a line, 0 where no line ends there.
+pub fn ending(text: &[u8], at: usize) -> usize
+    ensures { λ r. ⌜ r ≡ ending (drop at (now (text .entry))) ⌝ }
+{
+    if byte_at(text, at) == b'\n' {
+        return 1;
+    }
+    0
+}
+
+// Whether `count` digits stand at a place.
+fn digits(text: &[u8], from: usize, count: usize) -> bool
+    requires { ⌜ (from ≤ length (now text)) × (count < 256) ⌝ }
+    ensures { λ r. ⌜ r ≡ digits count (drop from (now (text .entry))) ⌝ }
+{
+    let mut i: usize = 0;
+    let mut at = from;
+    while i < count {
+        if digit_value(byte_at(text, at)) >= 16 {
+            return false;
+        }
+        i += 1;
+        at += 1;
+    }
+    true
+}
+
+// How many bytes the line at a place takes, 0 where it is not eight digits and a line's end.
+pub fn line_size(text: &[u8], at: usize) -> usize
+    requires { ⌜ at ≤ length (now text) ⌝ }
+    ensures { λ r. ⌜ r ≡ lineSize (drop at (now (text .entry))) ⌝ }
+{
+    if !digits(text, at, DIGITS) {
+        return 0;
+    }
+    let end = ending(text, at + DIGITS);
+    if end == 0 {
+        return 0;
+    }
+    DIGITS + end
+}
+
+// The lines that stand in a row from a place on, `most` at most.
+pub fn lines(text: &[u8], from: usize, most: usize) -> Counted
+    requires { ⌜ from ≤ length (now text) ⌝ }
+    ensures { λ r. ⌜ LinesAt (now (text .entry)) from most r ⌝ }
+{
+    let mut count: usize = 0;
+    let mut end = from;
+    while count < most {
+        let size = line_size(text, end);
+        if size == 0 {
+            return Counted { count, end };
+        }
+        count += 1;
+        end += size;
+    }
+    Counted { count, end }
+}

@@ -1,0 +1,68 @@
+/* Runs a sheet and a script through the interlock, prints the answers in words, then shows a refused call. */
+#include <inttypes.h>
+#include <stdio.h>
+#include <string.h>
+
+#include "hammerloom.h"
+
+/* Variable 1, and some value of variable 2 that equals variable 0. Open: 0 and 1. */
+static const uint8_t sheet[] = {
+    HAMMERLOOM_INPUT(0),  HAMMERLOOM_INPUT(2),  HAMMERLOOM_AND(0, 1), /* 0, 1, 2: both set */
+    HAMMERLOOM_NOT(0),    HAMMERLOOM_NOT(1),    HAMMERLOOM_AND(3, 4), /* 3, 4, 5: neither set */
+    HAMMERLOOM_OR(2, 5),  HAMMERLOOM_EXISTS(6, 2, 1),                 /* 6, 7: equal, for some variable 2 */
+    HAMMERLOOM_INPUT(1),  HAMMERLOOM_AND(7, 8),                       /* 8, 9: the formula */
+};
+static const uint8_t script[] = {
+    HAMMERLOOM_ASK, HAMMERLOOM_WHY,       HAMMERLOOM_ENTER(1, 0), HAMMERLOOM_ASK,
+    HAMMERLOOM_WHY, HAMMERLOOM_TAKE_BACK, HAMMERLOOM_READ(0),     HAMMERLOOM_ENTER(2, 1),
+};
+enum { LINES = sizeof script / HAMMERLOOM_FRAME_BYTES, FILL = 0xA5 };
+
+static void print_answer(uint8_t kind, const uint8_t *answers, size_t line) {
+    const unsigned refusal = HAMMERLOOM_ANSWER_REFUSAL(answers, line), v = HAMMERLOOM_ANSWER_V(answers, line);
+    const uint32_t word = HAMMERLOOM_ANSWER_WORD(answers, line);
+
+    printf("line %zu: ", line);
+    if (refusal != HAMMERLOOM_LINE_ACCEPTED)
+        printf("refused by %u\n", refusal);
+    else if (kind == 0x10)
+        printf("ENTER, entries standing: %u\n", v);
+    else if (kind == 0x11 || kind == 0x12)
+        printf("%s variable %u, value %" PRIu32 "\n", kind == 0x11 ? "TAKE BACK" : "READ", v, word);
+    else
+        printf("%s %s, %s %08" PRIX32 "\n", kind == 0x13 ? "ASK" : "WHY", v ? "yes" : "no",
+               kind == 0x13 ? "setting" : "reason", word);
+}
+
+/* Whether all bytes from a place on are still the ones that `main` filled in. */
+static const char *state(const uint8_t *bytes, size_t len) {
+    for (size_t i = 0; i < len; i++)
+        if (bytes[i] != FILL)
+            return "CHANGED";
+    return "untouched";
+}
+
+int main(void) {
+    static const uint8_t names_itself[] = {HAMMERLOOM_INPUT(0), HAMMERLOOM_NOT(1)};
+    enum { NEEDED = HAMMERLOOM_ANSWERS_LEN(sizeof script) };
+    uint8_t answers[NEEDED + 10];
+
+    memset(answers, FILL, sizeof answers);
+    uint32_t result = hammerloom_run(sheet, sizeof sheet, script, sizeof script, answers, sizeof answers);
+    if (result != HAMMERLOOM_ACCEPTED) {
+        printf("refused by %u at %u\n", HAMMERLOOM_REFUSAL(result), HAMMERLOOM_PLACE(result));
+        return 1;
+    }
+    for (size_t line = 0; line < LINES; line++)
+        print_answer(script[line * HAMMERLOOM_FRAME_BYTES], answers, line);
+    printf("bytes behind the answers: %s\n", state(answers + NEEDED, sizeof answers - NEEDED));
+
+    memset(answers, FILL, sizeof answers);
+    result = hammerloom_run(names_itself, sizeof names_itself, script, sizeof script, answers, sizeof answers);
+    printf("a frame that names itself: refused by %u at frame %u, buffer %s\n", HAMMERLOOM_REFUSAL(result),
+           HAMMERLOOM_PLACE(result), state(answers, sizeof answers));
+    result = hammerloom_run(sheet, sizeof sheet, script, sizeof script, answers, NEEDED - 1);
+    printf("one byte too little room: refused by %u, buffer %s\n", HAMMERLOOM_REFUSAL(result),
+           state(answers, sizeof answers));
+    return 0;
+}

@@ -1,0 +1,115 @@
+/* Hammerloom: checks a rule sheet of Boolean flags and runs a script of entries and questions over it.
+ *
+ * One function; link target/staticlib/libhammerloom.a (x86-64). All numbers of more than one byte are written highest
+ * byte first. "Bit k" of a word has the weight 2 to the k and belongs to variable k. */
+#ifndef HAMMERLOOM_H
+#define HAMMERLOOM_H
+
+#include <stddef.h>
+#include <stdint.h>
+
+#ifdef __cplusplus
+extern "C" {
+#endif
+
+/* ---- Sizes ---- */
+
+#define HAMMERLOOM_VARIABLES 32u           /* variables are 0 to 31 */
+#define HAMMERLOOM_FRAME_BYTES 4u          /* a sheet frame or script line: K A B C */
+#define HAMMERLOOM_ANSWER_BYTES 6u         /* an answer: refusal number or 0, V, a word of four bytes */
+#define HAMMERLOOM_MOST_SHEET_FRAMES 200u  /* a sheet has 1 to 200 frames, up to 800 bytes */
+#define HAMMERLOOM_MOST_SCRIPT_LINES 1000u /* a script has 0 to 1,000 lines, up to 4,000 bytes, 6,000 of answers */
+
+/* The room that the answers of a script of so many bytes take. */
+#define HAMMERLOOM_ANSWERS_LEN(script_len) ((script_len) / HAMMERLOOM_FRAME_BYTES * HAMMERLOOM_ANSWER_BYTES)
+
+/* ---- Sheet frames, each four bytes of an initializer ----
+ * Frames are numbered from 0; the last one is the sheet's formula. A frame names only frames before it, and may name
+ * the same one twice. EXISTS and FORALL bind `count` variables (1 to 32) from `first` on, first + count <= 32. A
+ * variable is bound by at most one frame of the sheet. No variable that the sheet binds may be open in the last frame. */
+
+#define HAMMERLOOM_NEVER 0x00, 0, 0, 0                                  /* false */
+#define HAMMERLOOM_INPUT(variable) 0x01, (variable), 0, 0               /* the variable's value */
+#define HAMMERLOOM_NOT(frame) 0x02, (frame), 0, 0
+#define HAMMERLOOM_AND(left, right) 0x03, (left), (right), 0
+#define HAMMERLOOM_OR(left, right) 0x04, (left), (right), 0
+#define HAMMERLOOM_EXISTS(frame, first, count) 0x05, (frame), (first), (count)
+#define HAMMERLOOM_FORALL(frame, first, count) 0x06, (frame), (first), (count)
+
+/* ---- Script lines, each four bytes of an initializer ---- */
+
+#define HAMMERLOOM_ENTER(variable, value) 0x10, (variable), (value), 0 /* V: entries now standing; word: 0 */
+#define HAMMERLOOM_TAKE_BACK 0x11, 0, 0, 0         /* the latest standing entry; V: its variable; word: its value */
+#define HAMMERLOOM_READ(place) 0x12, (place), 0, 0 /* place 0 is the oldest entry; V: its variable; word: its value */
+#define HAMMERLOOM_ASK 0x13, 0, 0, 0               /* V: 1 yes, 0 no; word: on yes the smallest setting, on no 0 */
+#define HAMMERLOOM_WHY 0x14, 0, 0, 0               /* V: the verdict of ASK; word: the mask of the reason */
+
+/* ASK: can the open variables that are not entered be set so that the sheet is true? The word of a yes is the smallest
+ * such setting of all open variables, the entered ones as entered and all other bits 0.
+ * WHY: variables that force the verdict of ASK whatever the others are, with their values in the word of ASK (yes) or
+ * as entered (no); none of them can be left out. */
+
+/* ---- Refusals ---- */
+
+/* Of a whole call, in the result. They are looked for in this order, frame by frame from 6 to 10, and the first one
+ * found is told. (Number 1 is a text reader's and no call is refused by it.) */
+enum hammerloom_refusal {
+    HAMMERLOOM_ACCEPTED = 0,
+    HAMMERLOOM_REFUSED_PART_FRAME = 2,    /* sheet empty, or sheet or script not of whole frames; place 0 */
+    HAMMERLOOM_REFUSED_SHEET_LENGTH = 3,  /* more than 200 sheet frames; place 0, told before the script's 2 */
+    HAMMERLOOM_REFUSED_SCRIPT_LENGTH = 4, /* more than 1,000 script lines; place 0 */
+    HAMMERLOOM_REFUSED_ANSWERS_ROOM = 5,  /* answers_len under 6 times the script lines; place 0 */
+    HAMMERLOOM_REFUSED_KIND = 6,          /* sheet kind above 06; place: the frame's number, as for those below */
+    HAMMERLOOM_REFUSED_SPARE = 7,         /* spare byte not 0 */
+    HAMMERLOOM_REFUSED_NAMED_FRAME = 8,   /* named frame not earlier */
+    HAMMERLOOM_REFUSED_RANGE = 9,         /* variable above 31, or a quantifier's range empty or past 31 */
+    HAMMERLOOM_REFUSED_BOUND_TWICE = 10,  /* variable bound by an earlier frame too */
+    HAMMERLOOM_REFUSED_BOUND_OPEN = 11    /* bound variable open in the last frame; place: the last frame's number */
+};
+
+/* Of one line, in the first byte of its answer; V and the word are then 0, the entries stay, and the script goes on.
+ * The first of these that applies is told. */
+enum hammerloom_line_refusal {
+    HAMMERLOOM_LINE_ACCEPTED = 0,
+    HAMMERLOOM_LINE_REFUSED_FORM = 12,     /* kind not 10 to 14 hexadecimal, or its spare byte not 0 */
+    HAMMERLOOM_LINE_REFUSED_NOT_OPEN = 13, /* ENTER: variable not open in the last frame */
+    HAMMERLOOM_LINE_REFUSED_VALUE = 14,    /* ENTER: value above 1 */
+    HAMMERLOOM_LINE_REFUSED_ENTERED = 15,  /* ENTER: variable already entered */
+    HAMMERLOOM_LINE_REFUSED_NO_ENTRY = 16, /* TAKE BACK: no entry stands */
+    HAMMERLOOM_LINE_REFUSED_PLACE = 17     /* READ: no entry at that place */
+};
+
+/* The refusal number, one of enum hammerloom_refusal, and the place of a result. */
+#define HAMMERLOOM_REFUSAL(result) ((unsigned)((uint32_t)(result) >> 8))
+#define HAMMERLOOM_PLACE(result) ((unsigned)((uint32_t)(result)&0xFFu))
+
+/* The parts of the answer to a script line; lines are counted from 0. */
+#define HAMMERLOOM_ANSWER(answers, line) ((answers) + (size_t)(line)*HAMMERLOOM_ANSWER_BYTES)
+#define HAMMERLOOM_ANSWER_REFUSAL(answers, line) ((unsigned)HAMMERLOOM_ANSWER(answers, line)[0])
+#define HAMMERLOOM_ANSWER_V(answers, line) ((unsigned)HAMMERLOOM_ANSWER(answers, line)[1])
+#define HAMMERLOOM_ANSWER_WORD(answers, line)                                                                    \
+    ((uint32_t)HAMMERLOOM_ANSWER(answers, line)[2] << 24 | (uint32_t)HAMMERLOOM_ANSWER(answers, line)[3] << 16 | \
+     (uint32_t)HAMMERLOOM_ANSWER(answers, line)[4] << 8 | (uint32_t)HAMMERLOOM_ANSWER(answers, line)[5])
+
+/* ---- The call ----
+ * Checks the sheet, runs the script over it from no entry, and returns 256 times the refusal number plus the place; 0
+ * when accepted.
+ *
+ * Accepted: the first HAMMERLOOM_ANSWERS_LEN(script_len) bytes of `answers` are the answers, in the script's order, and
+ * all bytes behind them are as they were. Refused: all of `answers` is as it was. `sheet` and `script` are only read.
+ *
+ * A null pointer is allowed where the length is 0, and is taken as an empty buffer: an empty sheet is refused by 2, an
+ * empty script has no answers. Any other pointer must have its length behind it. `answers` must not overlap `sheet` or
+ * `script`; these two may overlap each other. No alignment is asked for.
+ *
+ * It is reentrant: it keeps nothing between calls and has no data of its own outside the call, so it may be called from
+ * several threads at once, as long as nobody else writes a call's buffers meanwhile. It needs under 512 KiB of stack.
+ * It always returns, but the time of a question may grow exponentially with the number of variables. */
+uint32_t hammerloom_run(const uint8_t *sheet, size_t sheet_len, const uint8_t *script, size_t script_len,
+                        uint8_t *answers, size_t answers_len);
+
+#ifdef __cplusplus
+}
+#endif
+
+#endif

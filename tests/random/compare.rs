@@ -1,0 +1,63 @@
+//! One run of the archive or of the program against the evaluator, byte by byte.
+
+use crate::evaluator::{self, sheet::Refusal};
+use crate::generate::texts;
+use crate::tally::Tally;
+use crate::{archive, program};
+
+/// Calls the archive with an answer buffer of the given content; the tally gets one check.
+pub fn call(tally: &mut Tally, run: u64, sheet: &[u8], script: &[u8], answers: &[u8], salt: u64) {
+    let expected = evaluator::run(sheet, script, answers.len());
+    tally.met.note(script, &expected);
+    let outcome = archive::call(sheet, script, answers, salt);
+    let faults = faults(&expected, answers, &outcome);
+    tally.check(run, faults.is_empty(), || {
+        format!(
+            "{}\n  {} answer bytes lent; sheet and script as text, odd bytes at a part's end on a short line:\n{}",
+            faults.join("; "),
+            answers.len(),
+            String::from_utf8_lossy(&texts::text(sheet, script)),
+        )
+    });
+}
+
+fn faults(expected: &Result<Vec<u8>, Refusal>, before: &[u8], outcome: &archive::Outcome) -> Vec<String> {
+    let mut faults = Vec::new();
+    let mut answers = before.to_vec();
+    let result = match expected {
+        Ok(bytes) => {
+            answers[..bytes.len()].copy_from_slice(bytes);
+            0
+        }
+        Err(refusal) => 256 * u32::from(refusal.number) + u32::from(refusal.place),
+    };
+    if outcome.result != result {
+        faults.push(format!("returned {}, expected {result}", outcome.result));
+    }
+    if let Some(place) = (0..answers.len()).find(|&place| answers[place] != outcome.answers[place]) {
+        let line = place / 6 * 6..answers.len().min(place / 6 * 6 + 6);
+        let (is, should) = (&outcome.answers[line.clone()], &answers[line]);
+        faults.push(format!("answer {} is {is:02X?}, expected {should:02X?}", place / 6));
+    }
+    faults.extend(outcome.disturbed.iter().map(|what| format!("changed {what}")));
+    faults
+}
+
+/// Runs the program on a text; the tally gets one check.
+pub fn text(tally: &mut Tally, run: u64, path: &str, text: &[u8], pieces: usize) {
+    let expected = evaluator::text::printed(text);
+    let printed = program::printed(path, text, pieces);
+    tally.check(run, printed.as_ref() == Ok(&expected), || {
+        let got = match &printed {
+            Ok(bytes) => format!("printed {:?}", String::from_utf8_lossy(bytes)),
+            Err(error) => error.clone(),
+        };
+        let start = &text[..text.len().min(2000)];
+        format!(
+            "{got}\n  expected {:?}\n  for a text of {} bytes: {:?}",
+            String::from_utf8_lossy(&expected),
+            text.len(),
+            String::from_utf8_lossy(start),
+        )
+    });
+}

@@ -1,0 +1,69 @@
+//! The text: lines of eight digits, and what the program prints.
+
+use super::sheet::{Refusal, MOST_SCRIPT_FRAMES, MOST_SHEET_FRAMES};
+use super::ANSWER;
+
+/// What the program prints for a text.
+pub fn printed(text: &[u8]) -> Vec<u8> {
+    let outcome = read(text).and_then(|(sheet, script)| super::run(&sheet, &script, usize::MAX));
+    match outcome {
+        Ok(answers) => answers.chunks_exact(ANSWER).flat_map(answer_line).collect(),
+        Err(refusal) => answer_line(&[refusal.number, refusal.place, 0, 0, 0, 0]),
+    }
+}
+
+/// Twelve digits and 0A.
+fn answer_line(answer: &[u8]) -> Vec<u8> {
+    let digits: String = answer.iter().map(|byte| format!("{byte:02X}")).collect();
+    format!("{digits}\n").into_bytes()
+}
+
+/// The bytes of sheet and script. Lines are taken in order, the first fault is told, a line's shape before the counts.
+pub fn read(text: &[u8]) -> Result<(Vec<u8>, Vec<u8>), Refusal> {
+    let refused = |number| Err(Refusal { number, place: 0 });
+    let (mut sheet, mut script) = (Vec::new(), Vec::new());
+    let mut in_script = false;
+    let mut rest = text;
+    while !rest.is_empty() {
+        let Some(end) = rest.iter().position(|&byte| byte == 0x0A) else {
+            return refused(1);
+        };
+        let line = &rest[..end];
+        rest = &rest[end + 1..];
+        if line.is_empty() && !in_script {
+            in_script = true;
+            continue;
+        }
+        let Some(frame) = frame(line) else {
+            return refused(1);
+        };
+        let (part, most, too_many) =
+            if in_script { (&mut script, MOST_SCRIPT_FRAMES, 4) } else { (&mut sheet, MOST_SHEET_FRAMES, 3) };
+        if part.len() == most * frame.len() {
+            return refused(too_many);
+        }
+        part.extend(frame);
+    }
+    if in_script {
+        Ok((sheet, script))
+    } else {
+        refused(1)
+    }
+}
+
+/// Eight digits 0-9 A-F, two to a byte.
+fn frame(line: &[u8]) -> Option<[u8; 4]> {
+    let digits: Option<Vec<u8>> = line.iter().map(|&byte| digit(byte)).collect();
+    match digits?[..] {
+        [a, b, c, d, e, f, g, h] => Some([a << 4 | b, c << 4 | d, e << 4 | f, g << 4 | h]),
+        _ => None,
+    }
+}
+
+fn digit(byte: u8) -> Option<u8> {
+    match byte {
+        b'0'..=b'9' => Some(byte - b'0'),
+        b'A'..=b'F' => Some(byte - b'A' + 10),
+        _ => None,
+    }
+}

@@ -1,0 +1,156 @@
+//! The truth table of a sheet's last frame over the variables that it reaches, and ASK and WHY read from it.
+
+use super::sheet::{Kind, Range, Sheet};
+
+/// More would need tables of more than 8 KiB a frame.
+const MOST_VARIABLES: usize = 16;
+
+/// Bit i of a table, counted through its words, is the frame's value under setting i.
+type Table = Vec<u64>;
+
+pub struct Truth {
+    /// The variables open in the last frame.
+    pub open: u32,
+    /// The settings of the reached variables, all others 0: setting i as a word, ascending.
+    settings: Vec<u32>,
+    last: Table,
+}
+
+impl Truth {
+    pub fn of(sheet: &Sheet) -> Truth {
+        let reached = reached(&sheet.frames);
+        let variables = reached_variables(&sheet.frames, &reached);
+        assert!(variables.len() <= MOST_VARIABLES, "a sheet of {} variables", variables.len());
+        let mut tables: Vec<Table> = Vec::new();
+        for (kind, reached) in sheet.frames.iter().zip(reached) {
+            let table = if reached { table(*kind, &tables, &variables) } else { Vec::new() };
+            tables.push(table);
+        }
+        Truth { open: sheet.open, settings: settings(&variables), last: tables.pop().unwrap() }
+    }
+
+    /// ASK: the smallest word that agrees with the entries, makes the last frame true and is 0 off its open variables.
+    pub fn ask(&self, entered: u32, values: u32) -> Option<u32> {
+        let fits = |word: u32| word & !self.open == 0 && word & entered == values;
+        self.rows().find(|&(word, truth)| truth && fits(word)).map(|(word, _)| word)
+    }
+
+    /// WHY: ASK's verdict and the mask of what is left.
+    pub fn why(&self, entered: u32, values: u32) -> (bool, u32) {
+        let (verdict, mut left, values) = match self.ask(entered, values) {
+            Some(word) => (true, self.open, word),
+            None => (false, entered, values),
+        };
+        for variable in (0..32).rev() {
+            let dropped = left & !(1 << variable);
+            if dropped != left && self.always(dropped, values, verdict) {
+                left = dropped;
+            }
+        }
+        (verdict, left)
+    }
+
+    /// All settings that agree with the values on the mask give the last frame that truth.
+    fn always(&self, mask: u32, values: u32, truth: bool) -> bool {
+        self.rows().all(|(word, value)| word & mask != values & mask || value == truth)
+    }
+
+    fn rows(&self) -> impl Iterator<Item = (u32, bool)> + '_ {
+        let value = |index: usize| self.last[index / 64] >> (index % 64) & 1 == 1;
+        self.settings.iter().enumerate().map(move |(index, &word)| (word, value(index)))
+    }
+}
+
+/// Which frames the last one names, directly or through others, itself included.
+fn reached(frames: &[Kind]) -> Vec<bool> {
+    let mut reached = vec![false; frames.len()];
+    *reached.last_mut().unwrap() = true;
+    for number in (0..frames.len()).rev() {
+        if !reached[number] {
+            continue;
+        }
+        match frames[number] {
+            Kind::Never | Kind::Input { .. } => {}
+            Kind::Not { frame } | Kind::Exists { frame, .. } | Kind::Forall { frame, .. } => reached[frame] = true,
+            Kind::And { left, right } | Kind::Or { left, right } => {
+                reached[left] = true;
+                reached[right] = true;
+            }
+        }
+    }
+    reached
+}
+
+/// The variables of the reached INPUT frames, ascending. Any other variable changes no reached frame's value.
+fn reached_variables(frames: &[Kind], reached: &[bool]) -> Vec<u8> {
+    let mut variables = Vec::new();
+    for (kind, &reached) in frames.iter().zip(reached) {
+        if let (Kind::Input { variable }, true) = (*kind, reached) {
+            variables.push(variable);
+        }
+    }
+    variables.sort_unstable();
+    variables.dedup();
+    variables
+}
+
+/// Bit p of the index is the p-th variable; as the variables ascend, so do the words.
+fn settings(variables: &[u8]) -> Vec<u32> {
+    let word = |index: u32| {
+        let bits = variables.iter().enumerate();
+        bits.fold(0, |word, (position, &variable)| word | (index >> position & 1) << variable)
+    };
+    (0..1 << variables.len()).map(word).collect()
+}
+
+fn table(kind: Kind, tables: &[Table], variables: &[u8]) -> Table {
+    let words = (1usize << variables.len()).div_ceil(64);
+    match kind {
+        Kind::Never => vec![0; words],
+        Kind::Input { variable } => {
+            let position = variables.iter().position(|&v| v == variable).unwrap();
+            (0..words).map(|word| input_word(position, word)).collect()
+        }
+        Kind::Not { frame } => tables[frame].iter().map(|word| !word).collect(),
+        Kind::And { left, right } => combine(&tables[left], &tables[right], |x, y| x & y),
+        Kind::Or { left, right } => combine(&tables[left], &tables[right], |x, y| x | y),
+        Kind::Exists { frame, binds } => quantify(&tables[frame], variables, binds, |x, y| x | y),
+        Kind::Forall { frame, binds } => quantify(&tables[frame], variables, binds, |x, y| x & y),
+    }
+}
+
+/// In the table of the variable at a position below 6 every word is the same; above, whole words alternate.
+fn input_word(position: usize, word: usize) -> u64 {
+    if position < 6 {
+        (0..64).fold(0, |bits, index: u64| bits | (index >> position & 1) << index)
+    } else if word >> (position - 6) & 1 == 1 {
+        u64::MAX
+    } else {
+        0
+    }
+}
+
+fn combine(left: &Table, right: &Table, gate: fn(u64, u64) -> u64) -> Table {
+    left.iter().zip(right).map(|(&x, &y)| gate(x, y)).collect()
+}
+
+/// One bound variable after the other: a table with itself, the variable flipped.
+fn quantify(table: &Table, variables: &[u8], binds: Range, gate: fn(u64, u64) -> u64) -> Table {
+    let mut table = table.clone();
+    for (position, variable) in variables.iter().enumerate() {
+        if binds.variables().contains(variable) {
+            table = combine(&table, &flipped(&table, position), gate);
+        }
+    }
+    table
+}
+
+/// The value under setting i moves to the setting that differs from i at the position.
+fn flipped(table: &Table, position: usize) -> Table {
+    if position >= 6 {
+        return (0..table.len()).map(|word| table[word ^ 1 << (position - 6)]).collect();
+    }
+    let set = input_word(position, 0);
+    let shift = 1 << position;
+    table.iter().map(|word| (word & set) >> shift | (word & !set) << shift).collect()
+}

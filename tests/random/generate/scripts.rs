@@ -1,0 +1,60 @@
+//! Random scripts for a sheet with given open variables.
+
+use crate::rng::Rng;
+
+/// Mostly sound lines, so that entries stand when ASK and WHY come; `questions` is the percentage of these two.
+pub fn script(rng: &mut Rng, open: u32, lines: usize, questions: usize) -> Vec<u8> {
+    let open: Vec<u8> = (0..32).filter(|&variable| open >> variable & 1 == 1).collect();
+    let mut standing = Vec::new();
+    (0..lines).flat_map(|_| line(rng, &open, &mut standing, questions)).collect()
+}
+
+fn line(rng: &mut Rng, open: &[u8], standing: &mut Vec<u8>, questions: usize) -> [u8; 4] {
+    if rng.percent(questions) {
+        return [rng.pick(&[0x13, 0x13, 0x14]), 0, 0, 0];
+    }
+    let left: Vec<u8> = open.iter().copied().filter(|variable| !standing.contains(variable)).collect();
+    match rng.below(20) {
+        0..=10 if !left.is_empty() => {
+            let variable = rng.pick(&left);
+            standing.push(variable);
+            [0x10, variable, rng.below(2) as u8, 0]
+        }
+        0..=14 if !standing.is_empty() => {
+            standing.pop();
+            [0x11, 0, 0, 0]
+        }
+        15..=16 => [0x12, rng.below(standing.len() + 2) as u8, 0, 0],
+        17 => [0x13, 0, 0, 0],
+        _ => doubtful(rng, open, standing),
+    }
+}
+
+/// A line that is likely, but not sure, to be refused. It never changes the entries.
+fn doubtful(rng: &mut Rng, open: &[u8], standing: &[u8]) -> [u8; 4] {
+    let edges = [0, 1, 2, 31, 32, 33, 40, 128, 255];
+    let (edge, other) = (rng.pick(&edges), rng.pick(&edges));
+    let fault = rng.between(1, 255) as u8;
+    match rng.below(11) {
+        0 => [rng.pick(&[0x00, 0x01, 0x06, 0x07, 0x0F, 0x15, 0x20, 0x90, 0xFF]), edge, other, 0],
+        1 => [0x10, edge, other, fault],
+        2 => [rng.pick(&[0x11, 0x13, 0x14]), fault, edge, other],
+        3 => [rng.pick(&[0x11, 0x12, 0x13, 0x14]), 0, fault, edge],
+        4 => [rng.pick(&[0x11, 0x12, 0x13, 0x14]), 0, 0, fault],
+        5 => [0x10, rng.pick(&[32, 40, 64, 128, 255]), edge, 0],
+        6 if !open.is_empty() => [0x10, rng.pick(open), rng.between(2, 255) as u8, 0],
+        7 if !standing.is_empty() => [0x10, rng.pick(standing), rng.below(3) as u8, 0],
+        8 => match (0..32).find(|variable| !open.contains(variable)) {
+            Some(_) => [0x10, closed(rng, open), rng.below(3) as u8, 0],
+            None => [0x12, edge, 0, 0],
+        },
+        9 if standing.is_empty() => [0x11, 0, 0, 0],
+        _ => [0x12, edge, 0, 0],
+    }
+}
+
+/// A variable that is not open; there is one.
+fn closed(rng: &mut Rng, open: &[u8]) -> u8 {
+    let closed: Vec<u8> = (0..32).filter(|variable| !open.contains(variable)).collect();
+    rng.pick(&closed)
+}

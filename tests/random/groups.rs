@@ -1,0 +1,290 @@
+//! The groups of runs. Each takes its random numbers from the seed, its own number and the run's number.
+
+use crate::evaluator::sheet::{self, Sheet};
+use crate::evaluator::{literal, truth::Truth, ANSWER};
+use crate::generate::damage::{damaged, faulty, misruled};
+use crate::generate::sheets::{self, Size, LARGE, MIDDLE, SMALL};
+use crate::generate::{scripts, texts};
+use crate::rng::Rng;
+use crate::tally::Tally;
+use crate::{compare, panel};
+
+pub struct Options {
+    pub seed: u64,
+    pub count: u64,
+    pub program: String,
+}
+
+pub struct Group {
+    pub name: &'static str,
+    /// How many runs, each perhaps of several calls.
+    pub runs: fn(&Options) -> u64,
+    pub run: fn(&Options, &mut Rng, u64, &mut Tally),
+}
+
+pub const GROUPS: &[Group] = &[
+    Group { name: "the panel's cases", runs: |_| panel::CASES.len() as u64, run: panel_case },
+    Group { name: "sizes", runs: |_| SHEET_SIZES.len() as u64, run: sizes },
+    Group { name: "every second frame of edge values", runs: |_| EDGES.len() as u64, run: edge_frames },
+    Group { name: "every line of edge values", runs: |_| EDGES.len() as u64, run: edge_lines },
+    Group { name: "random runs", runs: |options| options.count, run: random },
+    Group { name: "long scripts", runs: |options| options.count / 400, run: long_scripts },
+    Group { name: "full tables", runs: |options| options.count / 2000, run: full_tables },
+    Group { name: "single byte faults", runs: |options| options.count / 400, run: byte_faults },
+    Group { name: "cut sheets and scripts", runs: |options| options.count / 400, run: cut },
+    Group { name: "answer buffers of every length", runs: |options| options.count / 400, run: answer_buffers },
+    Group { name: "truth tables against the rules read literally", runs: |options| options.count / 10, run: literally },
+    Group { name: "texts through the program", runs: |options| options.count / 50, run: program_texts },
+    Group { name: "limits through the program", runs: |_| LIMITS.len() as u64, run: program_limits },
+];
+
+/// An answer buffer of random content with room for the script's answers and a few bytes more.
+fn answer_buffer(rng: &mut Rng, script: &[u8]) -> Vec<u8> {
+    let more = rng.below(10);
+    rng.bytes(script.len() / 4 * ANSWER + more)
+}
+
+fn call(rng: &mut Rng, tally: &mut Tally, run: u64, sheet: &[u8], script: &[u8]) {
+    let answers = answer_buffer(rng, script);
+    compare::call(tally, run, sheet, script, &answers, rng.next());
+}
+
+/// A random accepted sheet and a script for it. A sheet that is true or false under every setting is drawn again, a few
+/// times.
+fn sheet_and_script(rng: &mut Rng, size: Size, lines: usize, questions: usize) -> (Vec<u8>, Vec<u8>) {
+    let mut tries = rng.between(1, 5);
+    let (sheet, truth) = loop {
+        let sheet = sheets::sheet(rng, size);
+        let truth = Truth::of(&accepted(&sheet));
+        tries -= 1;
+        if tries == 0 || truth.why(0, 0).1 != 0 {
+            break (sheet, truth);
+        }
+    };
+    let lines = rng.between(0, lines);
+    let script = scripts::script(rng, truth.open, lines, questions);
+    (sheet, script)
+}
+
+fn accepted(drafted: &[u8]) -> Sheet {
+    sheet::check(drafted).unwrap_or_else(|refusal| panic!("a drafted sheet is refused: {refusal:?}, {drafted:02X?}"))
+}
+
+fn panel_case(_: &Options, rng: &mut Rng, run: u64, tally: &mut Tally) {
+    panel::run(&panel::CASES[run as usize], rng, run, tally);
+}
+
+const SHEET_SIZES: &[usize] = &[0, 1, 2, 3, 4, 5, 7, 8, 9, 795, 796, 799, 800, 801, 803, 804, 805, 807, 808, 4000];
+const SCRIPT_SIZES: &[usize] = &[0, 1, 2, 3, 4, 5, 8, 3996, 3999, 4000, 4001, 4003, 4004, 4005, 4008, 8000];
+
+/// Part frames, too many frames, short answer buffers, and a fault in the sheet, all at once in every mix.
+fn sizes(_: &Options, rng: &mut Rng, run: u64, tally: &mut Tally) {
+    for &script_len in SCRIPT_SIZES {
+        for faulty in [false, true] {
+            let mut sheet = [0x01, 3, 0, 0].repeat(1001)[..SHEET_SIZES[run as usize]].to_vec();
+            if let (true, Some(kind)) = (faulty, sheet.first_mut()) {
+                *kind = 0x07;
+            }
+            let script = &[0x13, 0, 0, 0].repeat(2001)[..script_len];
+            let needed = script_len / 4 * ANSWER;
+            for len in [0, needed.saturating_sub(1), needed, needed + 1] {
+                let answers = rng.bytes(len);
+                compare::call(tally, run, &sheet, script, &answers, rng.next());
+            }
+        }
+    }
+}
+
+const EDGES: &[u8] = &[0, 1, 2, 3, 4, 5, 6, 7, 16, 17, 30, 31, 32, 33, 128, 224, 255];
+
+/// After INPUT 31, a frame of each kind and around, with one field from this run and the others of all edge values.
+fn edge_frames(_: &Options, rng: &mut Rng, run: u64, tally: &mut Tally) {
+    let a = EDGES[run as usize];
+    for k in (0..=8).chain([0x10, 0xFF]) {
+        for &b in EDGES {
+            for &c in EDGES {
+                let sheet = [0x01, 31, 0, 0, k, a, b, c];
+                call(rng, tally, run, &sheet, &[0x13, 0, 0, 0, 0x14, 0, 0, 0]);
+            }
+        }
+    }
+}
+
+/// All lines of one first field, on a sheet with open variables 0 and 31, with an entry and without.
+fn edge_lines(_: &Options, rng: &mut Rng, run: u64, tally: &mut Tally) {
+    let sheet = [0x01, 0, 0, 0, 0x01, 31, 0, 0, 0x04, 0, 1, 0];
+    let a = EDGES[run as usize];
+    for k in [0x00, 0x01, 0x0F, 0x10, 0x11, 0x12, 0x13, 0x14, 0x15, 0xFF] {
+        for first in [[0x13, 0, 0, 0], [0x10, 31, 1, 0]] {
+            let mut script = first.to_vec();
+            for &b in EDGES {
+                for &c in EDGES {
+                    script.extend([k, a, b, c]);
+                }
+            }
+            script.extend([0x12, 0, 0, 0, 0x12, 1, 0, 0, 0x14, 0, 0, 0]);
+            call(rng, tally, run, &sheet, &script);
+        }
+    }
+}
+
+/// Sheets and scripts of all shapes, one in eight damaged. Most are small: the large ones take the time.
+fn random(_: &Options, rng: &mut Rng, run: u64, tally: &mut Tally) {
+    let (size, lines) = match rng.below(100) {
+        0..=66 => (SMALL, 24),
+        67..=95 => (MIDDLE, 14),
+        _ => (LARGE, 8),
+    };
+    let (mut sheet, mut script) = sheet_and_script(rng, size, lines, 40);
+    match rng.below(24) {
+        0 => sheet = damaged(rng, &sheet),
+        1 => script = damaged(rng, &script),
+        2 => sheet = misruled(rng, &sheet),
+        _ => {}
+    }
+    call(rng, tally, run, &sheet, &script);
+}
+
+/// Many questions under changing entries.
+fn long_scripts(_: &Options, rng: &mut Rng, run: u64, tally: &mut Tally) {
+    let size = Size { frames: 40, variables: if run.is_multiple_of(4) { 9 } else { 6 } };
+    let (sheet, script) = sheet_and_script(rng, size, 1000, 30);
+    call(rng, tally, run, &sheet, &script);
+}
+
+/// Questions after a first one that is meant to fill the tables; a call does not tell whether it did.
+fn full_tables(_: &Options, rng: &mut Rng, run: u64, tally: &mut Tally) {
+    let sheet = sheets::table_filling(rng);
+    let mut script = vec![0x13, 0, 0, 0];
+    script.extend(scripts::script(rng, accepted(&sheet).open, 14, 40));
+    call(rng, tally, run, &sheet, &script);
+}
+
+/// Each byte of a sheet and of a script in turn with three other values.
+fn byte_faults(_: &Options, rng: &mut Rng, run: u64, tally: &mut Tally) {
+    let (sheet, script) = sheet_and_script(rng, Size { frames: 24, variables: 5 }, 10, 40);
+    for place in 0..sheet.len() + script.len() {
+        for _ in 0..3 {
+            let (mut sheet, mut script) = (sheet.clone(), script.clone());
+            let byte = if place < sheet.len() { &mut sheet[place] } else { &mut script[place - sheet.len()] };
+            *byte = faulty(rng, *byte);
+            call(rng, tally, run, &sheet, &script);
+        }
+    }
+}
+
+/// Every beginning of a sheet with the whole script, and the whole sheet with every beginning of the script.
+fn cut(_: &Options, rng: &mut Rng, run: u64, tally: &mut Tally) {
+    let (sheet, script) = sheet_and_script(rng, Size { frames: 30, variables: 5 }, 14, 40);
+    for end in 0..sheet.len() {
+        call(rng, tally, run, &sheet[..end], &script);
+    }
+    for end in 0..=script.len() {
+        call(rng, tally, run, &sheet, &script[..end]);
+    }
+}
+
+/// Every length from none to some bytes more than needed.
+fn answer_buffers(_: &Options, rng: &mut Rng, run: u64, tally: &mut Tally) {
+    let (sheet, script) = sheet_and_script(rng, SMALL, 12, 40);
+    for len in 0..=script.len() / 4 * ANSWER + 13 {
+        let answers = rng.bytes(len);
+        compare::call(tally, run, &sheet, &script, &answers, rng.next());
+    }
+}
+
+/// The evaluator's own check: its tables against the rules read word for word, where that ends soon.
+fn literally(_: &Options, rng: &mut Rng, run: u64, tally: &mut Tally) {
+    let (sheet, truth) = loop {
+        let sheet = accepted(&sheets::sheet(rng, Size { frames: 24, variables: 5 }));
+        if literal::cost(&sheet) < 3000 {
+            let truth = Truth::of(&sheet);
+            break (sheet, truth);
+        }
+    };
+    let entered = rng.next() as u32 & sheet.open;
+    let values = rng.next() as u32 & entered;
+    let tables = (truth.ask(entered, values), truth.why(entered, values));
+    let words = (literal::ask(&sheet, entered, values), literal::why(&sheet, entered, values));
+    tally.check(run, tables == words, || format!("tables {tables:?}, rules {words:?}: {:?}", sheet.frames));
+}
+
+fn program_texts(options: &Options, rng: &mut Rng, run: u64, tally: &mut Tally) {
+    let size = if run.is_multiple_of(10) { MIDDLE } else { SMALL };
+    let (sheet, script) = sheet_and_script(rng, size, 20, 40);
+    let mut text = texts::text(&sheet, &script);
+    match rng.below(10) {
+        0..=4 => text = texts::damaged(rng, &text),
+        5 => text = texts::text(&damaged_frames(rng, &sheet), &script),
+        _ => {}
+    }
+    let pieces = if run.is_multiple_of(20) { 3 } else { 1 };
+    compare::text(tally, run, &options.program, &text, pieces);
+}
+
+/// A sheet with one byte's fault: still a well shaped text.
+fn damaged_frames(rng: &mut Rng, sheet: &[u8]) -> Vec<u8> {
+    let mut sheet = sheet.to_vec();
+    let place = rng.below(sheet.len());
+    sheet[place] = faulty(rng, sheet[place]);
+    sheet
+}
+
+/// Texts around the counts and sizes.
+const LIMITS: &[fn() -> Vec<u8>] = &[
+    Vec::new,
+    || b"\n".to_vec(),
+    || b"\n\n".to_vec(),
+    || texts::counted(0, 0),
+    || texts::counted(0, 1),
+    || texts::counted(0, 1000),
+    || texts::counted(0, 1001),
+    || texts::counted(200, 0),
+    || texts::counted(200, 1000),
+    || texts::counted(200, 1001),
+    || texts::counted(201, 0),
+    || texts::counted(201, 1001),
+    || texts::counted(1, 999),
+    || texts::counted(1, 1000),
+    || texts::counted(1, 1001),
+    || texts::counted(1, 1820),
+    || texts::counted(1, 20_000),
+    || texts::counted(5000, 5000),
+    || joined(texts::counted(200, 0), b"\n"),
+    || joined(texts::counted(200, 1000), b"\n"),
+    || joined(texts::counted(200, 1000), b"0"),
+    || joined(texts::counted(200, 1000), b"1300000g\n"),
+    || joined(texts::counted(200, 1000), b"13000000"),
+    || joined(texts::counted(200, 1000), b"13000000\n\n"),
+    || joined(sheet_lines(200), b"01000000"),
+    || joined(sheet_lines(200), b"0100000\n"),
+    || joined(sheet_lines(200), b"0100000a\n\n"),
+    || joined(sheet_lines(200), b"01000000\n"),
+    || joined(sheet_lines(200), b"01000000\nzz"),
+    || sheet_lines(200),
+    || sheet_lines(1),
+    || vec![b'0'; 16_383],
+    || vec![b'0'; 16_384],
+    || vec![b'0'; 16_385],
+    || vec![b'\n'; 70_000],
+    || vec![0; 300_000],
+    || joined(texts::counted(3, 3), &[b'\n'; 20_000]),
+    || joined(texts::counted(3, 3), &[b'F'; 20_000]),
+];
+
+/// Sheet lines without the empty line.
+fn sheet_lines(count: usize) -> Vec<u8> {
+    let mut text = texts::counted(count, 0);
+    text.pop();
+    text
+}
+
+fn joined(mut text: Vec<u8>, more: &[u8]) -> Vec<u8> {
+    text.extend(more);
+    text
+}
+
+fn program_limits(options: &Options, _: &mut Rng, run: u64, tally: &mut Tally) {
+    let text = LIMITS[run as usize]();
+    compare::text(tally, run, &options.program, &text, 1);
+}

@@ -1,0 +1,99 @@
+//! The count of checks, the first failures in words, and what the runs met.
+
+use crate::evaluator::sheet::Refusal;
+
+/// Reports beyond these are counted only.
+const MOST_REPORTS: usize = 5;
+
+#[derive(Default)]
+pub struct Tally {
+    pub passed: u64,
+    pub failed: u64,
+    /// Each with its run's number.
+    reports: Vec<(u64, String)>,
+    pub met: Met,
+}
+
+impl Tally {
+    pub fn check(&mut self, run: u64, holds: bool, report: impl FnOnce() -> String) {
+        if holds {
+            self.passed += 1;
+            return;
+        }
+        self.failed += 1;
+        if self.reports.len() < MOST_REPORTS {
+            self.reports.push((run, report()));
+        }
+    }
+
+    pub fn add(&mut self, other: Tally) {
+        self.passed += other.passed;
+        self.failed += other.failed;
+        self.reports.extend(other.reports);
+        self.met.add(&other.met);
+    }
+
+    /// Prints the first failures of a group.
+    pub fn tell(&mut self, group: &str) {
+        self.reports.sort();
+        for (run, report) in self.reports.drain(..).take(MOST_REPORTS) {
+            println!("FAILED {group}, run {run}: {report}");
+        }
+    }
+}
+
+/// How often each refusal, and each kind of question with each verdict, came up in the expected answers.
+#[derive(Default)]
+pub struct Met {
+    refusals: [u64; 18],
+    /// ASK no and yes, WHY no and yes, each with word 0 and with another.
+    questions: [u64; 8],
+}
+
+impl Met {
+    pub fn note(&mut self, script: &[u8], expected: &Result<Vec<u8>, Refusal>) {
+        let answers = match expected {
+            Err(refusal) => {
+                self.refusals[usize::from(refusal.number)] += 1;
+                return;
+            }
+            Ok(answers) => answers,
+        };
+        for (line, answer) in script.chunks_exact(4).zip(answers.chunks_exact(6)) {
+            if answer[0] != 0 {
+                self.refusals[usize::from(answer[0])] += 1;
+            } else if line[0] >= 0x13 {
+                let word = answer[2..].iter().any(|&byte| byte != 0);
+                let which = 4 * usize::from(line[0] - 0x13) + 2 * usize::from(answer[1]) + usize::from(word);
+                self.questions[which] += 1;
+            }
+        }
+    }
+
+    fn add(&mut self, other: &Met) {
+        for (count, more) in self.refusals.iter_mut().zip(other.refusals) {
+            *count += more;
+        }
+        for (count, more) in self.questions.iter_mut().zip(other.questions) {
+            *count += more;
+        }
+    }
+
+    /// What came up fewer than so many times, of all that can: no call is refused by 0 or 1, and a no has no word.
+    pub fn lacks(&self, least: u64) -> Vec<String> {
+        let mut lacks = Vec::new();
+        for (number, &count) in self.refusals.iter().enumerate().skip(2) {
+            if count < least {
+                lacks.push(format!("refusal {number} {count} times"));
+            }
+        }
+        let names =
+            ["ASK no", "", "ASK yes, word 0", "ASK yes", "WHY no, mask 0", "WHY no", "WHY yes, mask 0", "WHY yes"];
+        for (name, &count) in names.iter().zip(&self.questions) {
+            if count < least && !name.is_empty() {
+                lacks.push(format!("{name} {count} times"));
+            }
+        }
+        lacks
+    }
+}
