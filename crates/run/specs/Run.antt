@@ -11,7 +11,8 @@ use Rattle.sheet.specs.Cause.{Cause, Refusal, first}
 use Rattle.sheet.specs.Rules.{variables, cause, sizeCauses, frameCauses}
 use Rattle.solver.specs.Contract.{root, Kept-on, Promised}
 use Rattle.session.specs.declared.Entry.{Entry}
-use Rattle.session.specs.Model.{Meaning, meaning, enteredMask, enteredValues, answerLength, ASK, lines, after, answerAt, answers}
+use Rattle.session.specs.Sound.{sheetMeaning}
+use Rattle.session.specs.Model.{Meaning, enteredMask, enteredValues, answerLength, ASK, lines, after, answerAt, answers}
 
 -- ---- refusals
 
@@ -36,7 +37,7 @@ refusal sheet script bytes = first (causes sheet script bytes)
 
 -- what the reference model takes from a sheet: the meaning of its last frame
 abbrev pub book : List ℕ → Meaning
-book sheet = meaning variables (root sheet)
+book sheet = sheetMeaning sheet
 
 -- the entries that stand before line i of the script
 abbrev pub before : List ℕ → List ℕ → ℕ → List Entry

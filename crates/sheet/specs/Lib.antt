@@ -1,4 +1,5 @@
 pub mod Frames
+pub mod Reader
 pub mod Refusal
 pub mod Cause
 pub mod Rules

@@ -1,4 +1,5 @@
 // A sheet's frames: what their bytes say, and whether the sheet keeps the rules.
+pub mod reader;
 pub mod refusal;
 mod rules;
 
@@ -63,9 +64,10 @@ pub fn decode(bytes: &[u8], number: usize) -> Frame
     }
 }
 
-// The same from plain parameters: whoever reads a frame of a sheet calls this.
+// The same, taken by a reader: whoever reads a frame of a sheet calls this.
 pub fn frame_at(bytes: &[u8], number: usize) -> Frame
     ensures { λ r. ⌜ (r .number ≡ number) × (r .kind ≡ kind (now (bytes .entry)) number) ⌝ }
 {
-    decode(bytes, number)
+    let mut reader = reader::new(bytes, number);
+    reader::next(&mut reader)
 }

@@ -12,7 +12,7 @@ ghost use Rattle.sheet.specs.RuleLaws.{CleanAt};
 ghost use Rattle.sheet.specs.Check.{boundMask, freeWord, variablesFault, Checks};
 ghost use Rattle.sheet.specs.Pass.{Passed, RootChecks};
 use crate::Kind;
-use crate::decode;
+use crate::frame_at;
 use crate::kind_of;
 use crate::refusal;
 use crate::wide;
@@ -212,7 +212,7 @@ fn pass(sheet: &[u8], k: usize, words: &mut [u32; 200], bound: u32) -> u32
     requires { ⌜ Passed (now sheet) (now words) bound k × ((k < frames (now sheet)) × CleanAt (now sheet) k) ⌝ }
     ensures { λ r. ⌜ Passed (now (sheet .entry)) (now (words .exit)) r (k + 1) ⌝ }
 {
-    let frame = decode(sheet, k);
+    let frame = frame_at(sheet, k);
     let kind = frame.kind;
     let word = free_word(kind, words);
     words[k] = word;

@@ -1,5 +1,5 @@
 -- What asking a sheet needs and gives: the contracts of `ask` and `why`. Assumes nothing.
-use Prim.Native.Nat.{ℕ, _-_, _≤_, _<_}
+use Prim.Native.Nat.{ℕ, _≤_, _<_}
 use mathlib.Core.Path.{_≡_}
 use mathlib.Core.Bool.{Bool, true, false}
 use mathlib.Core.List.{List}
@@ -9,11 +9,10 @@ use Rattle.formula.specs.Ask.{Verdict, freeMask, ask}
 use Rattle.formula.specs.Why.{why}
 use Rattle.sheet.specs.Frames.{frames, kind, formula, Ordered}
 use Rattle.records.specs.Table.{Valid, Grown, Kept}
+-- the number of the last frame
+pub use Rattle.sheet.specs.Rules.{last}
 
--- the number of the last frame, and the formula of the whole sheet
-abbrev pub last : List ℕ → ℕ
-last s = frames s - 1
-
+-- the formula of the whole sheet
 abbrev pub root : List ℕ → Formula
 root s = formula s (last s)
 

@@ -90,7 +90,8 @@ module _ (s : List ℕ) (w : ℕ) (o : Ordered 32 (kind s)) where
       }
 
   -- Law 2. The candidate w gives the body the target's truth, and of each child there is a record that agrees with w: under where the child
-  -- is true, over where it is false. The search sees to that as long as the tables have room (`Noted`). Then L' holds of the candidate.
+  -- is true, over where it is false. Then L' holds of the candidate. The search leaves such a record of each child that it checks, as long
+  -- as the table has room (`Noted`); a child that the body's value does not need may have none.
   pub found : {u : List ℕ} {cu : ℕ} {o′ : List ℕ} {co a : ℕ} {t : Bool} → truth (formula s a) (bit w) ≡ t
       → ((b : ℕ) → free (body s a) (proxy b) ≡ true → truth (formula s b) (bit w) ≡ true → Agreeing u cu b (completed s w))
       → ((b : ℕ) → free (body s a) (proxy b) ≡ true → truth (formula s b) (bit w) ≡ false → Agreeing o′ co b (completed s w))

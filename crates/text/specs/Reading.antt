@@ -5,6 +5,7 @@ use mathlib.Core.List.{List, [], _++_}
 use mathlib.Core.Path.{_≡_}
 use lib.Dec.{eqb, ltb}
 use lib.ListN.{length, drop}
+use Rattle.sheet.specs.Refusal as Number
 use Rattle.text.specs.Line.{Lines, lines, ending, frameBytes}
 use Rattle.text.specs.declared.Parsed.{Parsed}
 use Rattle.text.specs.declared.layout.Layout.{Layout}
@@ -17,18 +18,18 @@ sheetFrames = 200
 abbrev pub scriptFrames : ℕ
 scriptFrames = 1000
 
--- the refusals' numbers
+-- the refusals' numbers, as they stand for all crates
 abbrev pub malformed : ℕ
-malformed = 1
+malformed = Number.textShape
 
 abbrev pub longSheet : ℕ
-longSheet = 3
+longSheet = Number.sheetTooLong
 
 abbrev pub longScript : ℕ
-longScript = 4
+longScript = Number.scriptTooLong
 
 abbrev pub noRoom : ℕ
-noRoom = 5
+noRoom = Number.noRoom
 
 -- a refusal's number or 0, and the bytes of the two parts
 pub record Reading : Type 0 where

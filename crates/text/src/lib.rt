@@ -6,6 +6,7 @@ mod layout;
 mod line;
 
 use layout::Layout;
+use sheet::refusal;
 ghost use mathlib.Core.Path.{_≡_};
 ghost use Rattle.text.specs.Reading.{Read};
 ghost use Rattle.text.specs.Answer.{Wrote, answerLine};
@@ -21,8 +22,6 @@ pub struct Parsed {
 const SHEET_BYTES: usize = layout::SHEET_FRAMES * frame::BYTES;
 
 const SCRIPT_BYTES: usize = layout::SCRIPT_FRAMES * frame::BYTES;
-
-const NO_ROOM: u8 = 5;
 
 // A refusal: nothing is written.
 fn refused(number: u8) -> Parsed
@@ -40,10 +39,10 @@ pub fn read(text: &[u8], sheet: &mut [u8], script: &mut [u8]) -> Parsed
     ensures { λ r. ⌜ Read (now (text .entry)) (now (sheet .entry)) (now (script .entry)) r (now (sheet .exit)) (now (script .exit)) ⌝ }
 {
     if sheet.len() < SHEET_BYTES {
-        return refused(NO_ROOM);
+        return refused(refusal::NO_ROOM);
     }
     if script.len() < SCRIPT_BYTES {
-        return refused(NO_ROOM);
+        return refused(refusal::NO_ROOM);
     }
     match layout::scan(text) {
         Layout::Refused(number) => refused(number),

@@ -14,7 +14,7 @@ returns : tie.Need-returns
 returns c =
     let p = c .before .before .pre .0 in
     record {
-      tells = rw (← c .before .entry-at .ensures) (c .tell-entry .ensures);
+      tells = rw (c .before .entry-at .ensures) at (c .tell-entry .ensures);
       moved = record { cells = p .cells; within = p .within; stands = refl; under = refl; over = refl };
     }
 

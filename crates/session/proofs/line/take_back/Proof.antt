@@ -19,7 +19,7 @@ truncate-requires c κs = search needs
 returns : tie.Need-returns
 returns c =
     let p = c .before .before .before .before .pre .0 in
-    rw (length-standing (c .before .before .before .before .args .session) (p .cells) (p .within)) (record { tells = rw (← c .before .before .entry-at .ensures) (c .before .tell-entry .ensures); moved = c .truncate .ensures })
+    rw (length-standing (c .before .before .before .before .args .session) (p .cells) (p .within)) (record { tells = rw (c .before .before .entry-at .ensures) at (c .before .tell-entry .ensures); moved = c .truncate .ensures })
 
 pub take-back-spec : {M : Type 1} → statement M
 take-back-spec =

@@ -4,13 +4,13 @@ use borrow.Author.Needs.{needs}
 use Rattle.sheet.proofs.rules.pass.Statement.{statement}
 use Rattle.sheet.proofs.rules.pass.Tie as tie
 
-decode-requires : tie.Need-decode-requires
-decode-requires c κs = search needs
+frame-at-requires : tie.Need-frame-at-requires
+frame-at-requires c κs = search needs
 
 free-word-requires : tie.Need-free-word-requires
 free-word-requires c κs =
     let q = c .before .before .before .pre in
-    kind-fit _ _ _ _ (q .0) (q .1 .0) (q .1 .1) _ (c .before .decode .ensures .1)
+    kind-fit _ _ _ _ (q .0) (q .1 .0) (q .1 .1) _ (c .before .frame-at .ensures .1)
 
 mul-words : tie.Need-mul-words
 mul-words c = search needs
@@ -21,19 +21,19 @@ element-write-words c = search needs
 bound-word-requires : tie.Need-bound-word-requires
 bound-word-requires c κs =
     let q = c .before .before .before .before .pre in
-    kind-range _ _ _ _ (q .0) (q .1 .0) (q .1 .1) _ (c .before .before .decode .ensures .1)
+    kind-range _ _ _ _ (q .0) (q .1 .0) (q .1 .1) _ (c .before .before .frame-at .ensures .1)
 
 returns : tie.Need-returns
 returns c =
     let q = c .before .before .before .before .before .pre in
-    pass-read _ _ _ _ (q .0) (q .1 .0) (q .1 .1) _ (c .before .before .before .decode .ensures .1) _ _
+    pass-read _ _ _ _ (q .0) (q .1 .0) (q .1 .1) _ (c .before .before .before .frame-at .ensures .1) _ _
     (c .before .free-word .ensures) (c .bound-word .ensures)
 
 pub pass-spec : {M : Type 1} → statement M
 pass-spec =
     tie.close
     (tie.spec
-    decode-requires
+    frame-at-requires
     free-word-requires
     mul-words
     element-write-words
