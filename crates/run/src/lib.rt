@@ -78,7 +78,7 @@ fn run_line(
 {
     let at = i * 4;
     let place = i * 6;
-    let stepped = session::line::step(
+    let stepped = session::inplace::step_lent(
         session,
         script[at],
         script[at + 1],

@@ -1,6 +1,7 @@
 // A session over one sheet: the entries standing, and one script line. Everything here is `pub` for the crate `run`, which keeps its session sound.
 pub mod causes;
 pub mod entries;
+pub mod inplace;
 pub mod line;
 
 // A variable that is entered, and its value.

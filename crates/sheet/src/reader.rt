@@ -12,13 +12,13 @@ pub struct Reader<'a> {
 }
 
 // A frame, and the number at which a reader stands after it.
-pub struct Taken {
-    pub frame: Frame,
-    pub next: usize,
+struct Taken {
+    frame: Frame,
+    next: usize,
 }
 
 // The frame of that number and the number after it, which past the last whole frame is the same.
-pub fn take_at(bytes: &[u8], number: usize) -> Taken
+fn take_at(bytes: &[u8], number: usize) -> Taken
     ensures { λ r. ⌜ Takes (now (bytes .entry)) number (r .frame) (r .next) ⌝ }
 {
     let frame = decode(bytes, number);

@@ -9,29 +9,29 @@ mul-at c = search needs
 mul-place : tie.Need-mul-place
 mul-place c = search needs
 
-shared-slice-read-step : tie.Need-shared-slice-read-step
-shared-slice-read-step c = search needs
+shared-slice-read-step-lent : tie.Need-shared-slice-read-step-lent
+shared-slice-read-step-lent c = search needs
 
-add-step : tie.Need-add-step
-add-step c = search needs
+add-step-lent : tie.Need-add-step-lent
+add-step-lent c = search needs
 
-shared-slice-read-step-2 : tie.Need-shared-slice-read-step-2
-shared-slice-read-step-2 c = search needs
+shared-slice-read-step-lent-2 : tie.Need-shared-slice-read-step-lent-2
+shared-slice-read-step-lent-2 c = search needs
 
-add-step-2 : tie.Need-add-step-2
-add-step-2 c = search needs
+add-step-lent-2 : tie.Need-add-step-lent-2
+add-step-lent-2 c = search needs
 
-shared-slice-read-step-3 : tie.Need-shared-slice-read-step-3
-shared-slice-read-step-3 c = search needs
+shared-slice-read-step-lent-3 : tie.Need-shared-slice-read-step-lent-3
+shared-slice-read-step-lent-3 c = search needs
 
-add-step-3 : tie.Need-add-step-3
-add-step-3 c = search needs
+add-step-lent-3 : tie.Need-add-step-lent-3
+add-step-lent-3 c = search needs
 
-shared-slice-read-step-4 : tie.Need-shared-slice-read-step-4
-shared-slice-read-step-4 c = search needs
+shared-slice-read-step-lent-4 : tie.Need-shared-slice-read-step-lent-4
+shared-slice-read-step-lent-4 c = search needs
 
-step-requires : tie.Need-step-requires
-step-requires c κs = search needs
+step-lent-requires : tie.Need-step-lent-requires
+step-lent-requires c κs = search needs
 
 write-requires : tie.Need-write-requires
 write-requires c κs = search needs
@@ -47,10 +47,10 @@ same-length-3 c = search needs
 
 returns : tie.Need-returns
 returns c =
-    let r = c .before .before .before .before .before .before .before .before .before .before .step .result .answer in
+    let r = c .before .before .before .before .before .before .before .before .before .before .step-lent .result .answer in
     record {
       answer = record { number = r .number; v = r .v; word = r .word };
-      step = c .before .before .before .before .before .before .before .before .before .before .step .ensures;
+      step = c .before .before .before .before .before .before .before .before .before .before .step-lent .ensures;
       put = c .before .before .before .write .ensures;
     }
 
@@ -60,14 +60,14 @@ run-line-spec =
     (tie.spec
     mul-at
     mul-place
-    shared-slice-read-step
-    add-step
-    shared-slice-read-step-2
-    add-step-2
-    shared-slice-read-step-3
-    add-step-3
-    shared-slice-read-step-4
-    step-requires
+    shared-slice-read-step-lent
+    add-step-lent
+    shared-slice-read-step-lent-2
+    add-step-lent-2
+    shared-slice-read-step-lent-3
+    add-step-lent-3
+    shared-slice-read-step-lent-4
+    step-lent-requires
     write-requires
     same-length
     same-length-2
