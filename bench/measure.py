@@ -62,8 +62,9 @@ def archive():
     return path.resolve()
 
 
-def ours_program():
-    return compiled("ours", "ours.rs", "-C", "opt-level=2", "-C", f"link-arg={archive()}")
+def ours_program(name="ours", path=None):
+    """The program that asks the archive at that path, or the usual one."""
+    return compiled(name, "ours.rs", "-C", "opt-level=2", "-C", f"link-arg={path or archive()}")
 
 
 def sheets(what, *arguments):
