@@ -9,9 +9,9 @@ use lib.ListN.{length}
 use lib.Dec.{eqb, ltb}
 use borrow.Author.Tests.{eq-eqb, eqb-true, le-ltb, ltb-false}
 use Rattle.words.specs.Logic.{by-bool, or-false, not-false}
-use Rattle.sheet.specs.Cause.{Refusal, accepted, someHolds, Numbered, Foremost, some-append, numbered-append, none-first, first-none, first-foremost, foremost-first}
+use Rattle.sheet.specs.Cause.{Refusal, accepted, someHolds, Numbered, Foremost, some-append, numbered-append, none-first, first-none, foremost-exactly}
 use Rattle.sheet.specs.Rules.{lengthCauses, sizeCauses, frameCauses}
-use Rattle.sheet.specs.RuleLaws.{frame-numbered}
+use Rattle.sheet.specs.RuleLaws.{size-numbered, frame-numbered}
 use Rattle.sheet.specs.Keeps.{Keeps}
 use Rattle.sheet.specs.Accepted.{none-keeps, keeps-none}
 use Rattle.session.specs.Model.{answerLength, lines}
@@ -49,7 +49,7 @@ rule-room : (s : List ℕ) (bytes : ℕ) → answerLength * lines s ≤ bytes �
 unfolding someHolds roomCauses
 rule-room s bytes h = rw (le-ltb bytes (answerLength * lines s) h)
 
-run-numbered : (script : List ℕ) (bytes : ℕ) → Numbered (scriptCauses script ++ roomCauses script bytes)
+pub run-numbered : (script : List ℕ) (bytes : ℕ) → Numbered (scriptCauses script ++ roomCauses script bytes)
 unfolding scriptCauses roomCauses
 run-numbered script bytes = (omega arith, (omega arith, (omega arith, tt)))
 
@@ -64,9 +64,8 @@ module _ (sheet script : List ℕ) (bytes : ℕ) where
       ∙ ap (λ (t : Bool). someHolds (scriptCauses script) || t) (some-append (roomCauses script bytes) (frameCauses sheet)))
 
   pub causes-numbered : Numbered (causes sheet script bytes)
-  unfolding lengthCauses
   causes-numbered =
-      numbered-append (sizeCauses sheet) (scriptCauses script ++ (roomCauses script bytes ++ frameCauses sheet)) (omega arith, (omega arith, tt))
+      numbered-append (sizeCauses sheet) (scriptCauses script ++ (roomCauses script bytes ++ frameCauses sheet)) (size-numbered sheet)
       (rw append-assoc at (numbered-append (scriptCauses script ++ roomCauses script bytes) (frameCauses sheet) (run-numbered script bytes) (frame-numbered sheet)))
 
   -- no cause holds, list by list
@@ -102,8 +101,4 @@ module _ (sheet script : List ℕ) (bytes : ℕ) where
 
   -- number n at place k is told exactly if that cause holds and none before it in document 01's order does
   pub refused-foremost : (n k : ℕ) → 0 < n → (refusal sheet script bytes ≡ record { number = n; place = k }) ↔ Foremost (causes sheet script bytes) (record { number = n; place = k })
-  refused-foremost n k h = (λ e. subst (Foremost (causes sheet script bytes)) e (first-foremost (causes sheet script bytes) (holds e)), λ f. foremost-first f)
-    where
-      holds : refusal sheet script bytes ≡ record { number = n; place = k } → someHolds (causes sheet script bytes) ≡ true
-      holds e = by-bool (someHolds (causes sheet script bytes)) (λ t. t)
-          (λ t. absurd (omega (arith, ap (λ (r : Refusal). r .number) (sym (none-first (causes sheet script bytes) t) ∙ e))))
+  refused-foremost n k h = foremost-exactly (causes sheet script bytes) n k h

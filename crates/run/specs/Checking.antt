@@ -7,8 +7,10 @@ use mathlib.Core.List.{List, [], _∷_, _++_, append-assoc}
 use Rattle.words.specs.Logic.{by-bool}
 use Rattle.sheet.specs.Cause.{Cause, Refusal, first, someHolds, Numbered, some-append, first-earlier, first-later, none-first, first-none}
 use Rattle.sheet.specs.Rules.{lengthCauses, sizeCauses, frameCauses}
+use Rattle.sheet.specs.RuleLaws.{size-numbered}
 use Rattle.sheet.specs.Check.{Checks}
 use Rattle.run.specs.Run.{scriptCauses, roomCauses, causes}
+use Rattle.run.specs.Accept.{run-numbered}
 
 -- every cause is told at place 0
 abbrev pub AtZero : List Cause → Type 0
@@ -44,14 +46,6 @@ module _ (cs ds : List Cause) (s : List ℕ) where
       }
 
 module _ (sheet script : List ℕ) (room : ℕ) where
-  size-numbered : Numbered (sizeCauses sheet)
-  unfolding lengthCauses
-  size-numbered = (omega arith, (omega arith, tt))
-
-  script-numbered : Numbered (scriptCauses script ++ roomCauses script room)
-  unfolding scriptCauses roomCauses
-  script-numbered = (omega arith, (omega arith, (omega arith, tt)))
-
   size-at-zero : AtZero (sizeCauses sheet)
   unfolding lengthCauses
   size-at-zero = (refl, (refl, tt))
@@ -67,11 +61,11 @@ module _ (sheet script : List ℕ) (room : ℕ) where
   -- it does not
   module _ {size : ℕ} (sized : size ≡ first (sizeCauses sheet) .number) (none : size ≡ 0) where
     pub size-none : someHolds (sizeCauses sheet) ≡ false
-    size-none = first-none (sizeCauses sheet) size-numbered (sym sized ∙ none)
+    size-none = first-none (sizeCauses sheet) (size-numbered sheet) (sym sized ∙ none)
 
     after-size : {number place free : ℕ} → Checks ((scriptCauses script ++ roomCauses script room) ++ frameCauses sheet) sheet number place free
         → Checks (causes sheet script room) sheet number place free
-    after-size c = later-checks (sizeCauses sheet) _ sheet size-numbered (sym sized ∙ none) (rw append-assoc at c)
+    after-size c = later-checks (sizeCauses sheet) _ sheet (size-numbered sheet) (sym sized ∙ none) (rw append-assoc at c)
 
     -- the script or the room refuses
     pub script-checks : {number : ℕ} → number ≡ first (scriptCauses script ++ roomCauses script room) .number → (number ≡ 0 → ⊥)
@@ -81,4 +75,4 @@ module _ (sheet script : List ℕ) (room : ℕ) where
     -- neither does: the frames decide
     pub frames-checks : {fault number place free : ℕ} → fault ≡ first (scriptCauses script ++ roomCauses script room) .number → fault ≡ 0
         → Checks (frameCauses sheet) sheet number place free → Checks (causes sheet script room) sheet number place free
-    frames-checks e z c = after-size (later-checks (scriptCauses script ++ roomCauses script room) (frameCauses sheet) sheet script-numbered (sym e ∙ z) c)
+    frames-checks e z c = after-size (later-checks (scriptCauses script ++ roomCauses script room) (frameCauses sheet) sheet (run-numbered script room) (sym e ∙ z) c)

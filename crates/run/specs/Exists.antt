@@ -18,7 +18,7 @@ use Rattle.sheet.specs.Rules.{variables}
 use Rattle.sheet.specs.Keeps.{Keeps}
 use Rattle.records.specs.Table.{room, Grown, valid-empty, grown-refl, grown-trans, kept-grown}
 use Rattle.records.specs.Put.{Put, put-next, put-full, valid-put, kept-put, stored}
-use Rattle.solver.specs.Contract.{last, root, Kept-on}
+use Rattle.solver.specs.Contract.{last, root, TablesGrown}
 use Rattle.session.specs.Model.{enteredMask, enteredValues, answerLength, lines, answers}
 use Rattle.run.specs.Run.{refusal, book, before, Promised-at}
 use Rattle.run.specs.Call.{Call, Lent, Meets}
@@ -59,7 +59,7 @@ record Filled (sheet script under over : List ℕ) (i : ℕ) : Type 0 where
   cu : ℕ
   o : List ℕ
   co : ℕ
-  kept : Kept-on sheet under 0 over 0 u cu o co
+  kept : TablesGrown sheet under 0 over 0 u cu o co
   promised : (j : ℕ) → j < i → Promised-at sheet script j u cu o co
 
 module _ (sheet script under over : List ℕ) (K : Keeps sheet) where

@@ -9,7 +9,7 @@ use Rattle.words.specs.Logic.{by-bool, tests}
 use Rattle.sheet.specs.Cause.{Refusal, first-none}
 use Rattle.sheet.specs.Check.{Checks}
 use Rattle.records.specs.Table.{kept-grown, grown-refl, grown-trans}
-use Rattle.solver.specs.Contract.{Kept-on}
+use Rattle.solver.specs.Contract.{TablesGrown}
 use Rattle.session.specs.declared.Session.{Session}
 use Rattle.session.specs.Model.{Answer, answerLength, bytesOf, answerBytes, lines, lineAt, line, answerAt, answersTo, answers}
 use Rattle.session.specs.Script.{after-none, after-next, answers-none, answers-next, length-answersTo}
@@ -32,7 +32,7 @@ pub record Progress (s script : List ℕ) (free : ℕ) (ans under over : List �
   pub sound : Sound s free x u o
   pub stands : standingOf x ≡ before s script i
   pub told : ans' ≡ answersTo (book s) [] script i ++ drop (answerLength * i) ans
-  pub kept : Kept-on s under 0 over 0 u (x .under) o (x .over)
+  pub kept : TablesGrown s under 0 over 0 u (x .under) o (x .over)
   pub promised : (j : ℕ) → j < i → Asked s script j → Promised-at s script j u (x .under) o (x .over)
 
 -- ---- at the start

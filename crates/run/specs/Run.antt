@@ -9,7 +9,7 @@ use Rattle.formula.specs.Ask.{ask}
 use Rattle.sheet.specs.Refusal as Number
 use Rattle.sheet.specs.Cause.{Cause, Refusal, first}
 use Rattle.sheet.specs.Rules.{variables, cause, sizeCauses, frameCauses}
-use Rattle.solver.specs.Contract.{root, Kept-on, Promised}
+use Rattle.solver.specs.Contract.{root, TablesGrown, Promised}
 use Rattle.session.specs.declared.Entry.{Entry}
 use Rattle.session.specs.Sound.{sheetMeaning}
 use Rattle.session.specs.Model.{Meaning, enteredMask, enteredValues, answerLength, ASK, lines, after, answerAt, answers}
@@ -70,7 +70,7 @@ pub record Answers (sheet script ans under over ans' under' over' : List ℕ) (n
 -- What the records of an accepted run have in common. Which records are kept, and how many, is the program's choice.
 pub record Records (sheet script under over under' over' : List ℕ) (cu co : ℕ) : Type 0 where
   -- every counted record is true, and the numbers behind the counts are as at entry
-  pub kept : Kept-on sheet under 0 over 0 under' cu over' co
+  pub kept : TablesGrown sheet under 0 over 0 under' cu over' co
   -- for each ASK that was answered, the first to the last
   pub promised : (i : ℕ) → Asked sheet script i → Promised-at sheet script i under' cu over' co
 

@@ -8,7 +8,7 @@ use lib.Dec.{eqb}
 use Rattle.formula.specs.Ask.{Verdict, ask}
 use Rattle.formula.specs.Why.{why}
 use Rattle.sheet.specs.Rules.{variables}
-use Rattle.solver.specs.Contract.{root, Kept-on, Promised}
+use Rattle.solver.specs.Contract.{root, TablesGrown, Promised}
 use Rattle.session.specs.declared.Entry.{Entry}
 use Rattle.session.specs.declared.Session.{Session}
 use Rattle.session.specs.Model.{Answer, Reply, judged, enteredMask, enteredValues, ASK, WHY, line}
@@ -61,7 +61,7 @@ pub record Searches (s : List ℕ) (x : Session) (u o : List ℕ) (a : Verdict) 
   pub tells : Tells (judged a) number v word
   pub entries : x' .entries ≡ x .entries
   pub len : x' .len ≡ x .len
-  pub kept : Kept-on s u (x .under) o (x .over) u' (x' .under) o' (x' .over)
+  pub kept : TablesGrown s u (x .under) o (x .over) u' (x' .under) o' (x' .over)
 
 -- the tables and the counts are as they were
 pub record Untouched (x : Session) (u o : List ℕ) (x' : Session) (u' o' : List ℕ) : Type 0 where
@@ -81,7 +81,7 @@ pub record Step (s : List ℕ) (free : ℕ) (x : Session) (u o : List ℕ) (k a 
   pub stands : standingOf x' ≡ line (sheetMeaning s) (standingOf x) k a b c .entries
   pub sound : Sound s free x' u' o'
   -- every counted record is true, those that were counted stay, and the numbers behind the counts are as found
-  pub kept : Kept-on s u (x .under) o (x .over) u' (x' .under) o' (x' .over)
+  pub kept : TablesGrown s u (x .under) o (x .over) u' (x' .under) o' (x' .over)
   -- a refused line changes no record, and neither do ENTER, TAKE BACK and READ
   pub refused-same : 0 < number → Untouched x u o x' u' o'
   pub quiet-same : searches k ≡ false → Untouched x u o x' u' o'

@@ -13,7 +13,7 @@ use Rattle.words.specs.Logic.{clash, or-false, tests}
 use Rattle.formula.specs.Ask.{Verdict}
 use Rattle.sheet.specs.Rules.{variables, spareSet}
 use Rattle.records.specs.Table.{grown-refl}
-use Rattle.solver.specs.Contract.{root, Ready, Kept-on, Same}
+use Rattle.solver.specs.Contract.{root, Ready, TablesGrown, Same}
 use Rattle.session.specs.declared.Entry.{Entry}
 use Rattle.session.specs.declared.Session.{Session}
 use Rattle.session.specs.Model.{Meaning, meaning, Reply, reply, refused, counted, told, judged, noEntry, enteredMask, enteredValues, ENTER, TAKE-BACK, READ, ASK, WHY, used, unknown, lineRefusal, obeyed, line}
@@ -51,7 +51,7 @@ same-tells s t = record {
 -- ---- a search, put together
 
 pub searched : {s u o u' o' : List ℕ} {x x' : Session} {a : Verdict} {holds : Bool} {word cu co number v w : ℕ}
-    → Same a holds word → Kept-on s u (x .under) o (x .over) u' cu o' co → Recounted x cu co x'
+    → Same a holds word → TablesGrown s u (x .under) o (x .over) u' cu o' co → Recounted x cu co x'
     → Tells (judged (record { holds = holds; word = word })) number v w → Searches s x u o a x' u' o' number v w
 searched e k r t = record {
   tells = same-tells e t;

@@ -13,7 +13,7 @@ use Rattle.words.specs.Logic.{by-bool, clash, or-false, not-false, tests}
 use Rattle.formula.specs.Formula.{Formula, free}
 use Rattle.formula.specs.Ask.{Bounded}
 use Rattle.formula.specs.FreeMask.{bounded-never, bounded-input, bounded-neg, bounded-gate, bounded-quant}
-use Rattle.sheet.specs.Cause.{Refusal, accepted, someHolds, Foremost, some-append, none-first, first-none, first-foremost, foremost-first}
+use Rattle.sheet.specs.Cause.{Refusal, accepted, someHolds, Foremost, some-append, none-first, first-none, foremost-exactly}
 use Rattle.sheet.specs.Frames.{frames, kind, formula, formulaOf, build, Fit, Ordered, formula-is, kind-at, kind-past}
 use Rattle.sheet.specs.Rules.{variables, mostFrames, last, used, spareSet, names, someLate, badVariables, binds, boundBefore, lengthCauses, sizeCauses, causesBelow, rootCauses, frameCauses, sheetCauses, sheetRefusal}
 use Rattle.sheet.specs.RuleLaws.{bound-by, by-bound, range-fits, fits-range, binds-low, meet-none, none-meet, CleanAt, below-clean, clean-below, below-ordered, sheet-numbered}
@@ -190,11 +190,7 @@ module _ (s : List ℕ) where
   )
 
   pub refused-exactly : (n k : ℕ) → 0 < n → (sheetRefusal s ≡ record { number = n; place = k }) ↔ Foremost (sheetCauses s) (record { number = n; place = k })
-  refused-exactly n k h = (λ e. subst (Foremost (sheetCauses s)) e (first-foremost (sheetCauses s) (holds e)), λ f. foremost-first f)
-    where
-      holds : sheetRefusal s ≡ record { number = n; place = k } → someHolds (sheetCauses s) ≡ true
-      holds e = by-bool (someHolds (sheetCauses s)) (λ t. t)
-          (λ t. absurd (omega (arith, ap (λ (r : Refusal). r .number) (sym (none-first (sheetCauses s) t) ∙ e))))
+  refused-exactly n k h = foremost-exactly (sheetCauses s) n k h
 
 -- ---- for the layers above
 

@@ -1,8 +1,9 @@
 -- Causes of a refusal in their order, and the first of them that holds. Assumes nothing.
 use Prim.Native.Nat.{ℕ, _<_}
 use native.Mathlib.Omega.{arith}
-use mathlib.Core.Path.{_≡_, refl, sym, ap, _∙_}
+use mathlib.Core.Path.{_≡_, refl, sym, ap, _∙_, subst}
 use mathlib.Core.Bool.{Bool, true, false, cond, _||_}
+use mathlib.Core.Logic.{_↔_}
 use mathlib.Core.List.{List, [], _∷_, _++_}
 use Rattle.words.specs.Logic.{by-bool, clash, or-false}
 
@@ -109,3 +110,10 @@ first-foremost (c ∷ cs) e = by-bool (c .holds)
           holds = f .holds;
           is = rw h (f .is);
         }
+
+-- a number above 0 is told with its place exactly if that cause holds and none before it does
+pub foremost-exactly : (cs : List Cause) (n k : ℕ) → 0 < n → (first cs ≡ record { number = n; place = k }) ↔ Foremost cs (record { number = n; place = k })
+foremost-exactly cs n k h = (λ e. subst (Foremost cs) e (first-foremost cs (holds e)), λ f. foremost-first f)
+  where
+    holds : first cs ≡ record { number = n; place = k } → someHolds cs ≡ true
+    holds e = by-bool (someHolds cs) (λ t. t) (λ t. absurd (omega (arith, ap (λ (r : Refusal). r .number) (sym (none-first cs t) ∙ e))))

@@ -20,7 +20,7 @@ use Rattle.sheet.specs.Accepted.{ordered-bounded}
 use Rattle.records.specs.Table.{Valid, Grown, Kept, matches, grown-refl, grown-trans, explains-masked}
 use Rattle.records.specs.Put.{Put, valid-put, kept-put}
 use Rattle.records.specs.Search.{FirstBelow, first-kept}
-use Rattle.solver.specs.Contract.{last, root, Tables, Ready, Kept-on, Promised, Same}
+use Rattle.solver.specs.Contract.{last, root, Tables, Ready, TablesGrown, Promised, Same}
 use Rattle.solver.specs.Frames.{val}
 use Rattle.solver.specs.Search.{Ground, Posed, Met, Missed}
 
@@ -94,8 +94,8 @@ module _ {s : List ℕ} {opens mask values : ℕ} {u : List ℕ} {cu : ℕ} {o :
   -- ---- the verdict with its record
 
   pub answered-yes : {loose w word r : ℕ} {u1 : List ℕ} {c1 : ℕ} {o1 : List ℕ} {d1 : ℕ} {u2 : List ℕ} {c2 : ℕ}
-      → loose ≡ without opens mask → w ≡ values → Met s (last s) 1 loose w word r → Kept-on s u cu o co u1 c1 o1 d1 → Ensured u1 c1 u2 c2 (last s) opens word r
-      → Same (ask 32 (root s) mask values) true word × Kept-on s u cu o co u2 c2 o1 d1 × Promised s mask values (ask 32 (root s) mask values) u2 c2 o1 d1
+      → loose ≡ without opens mask → w ≡ values → Met s (last s) 1 loose w word r → TablesGrown s u cu o co u1 c1 o1 d1 → Ensured u1 c1 u2 c2 (last s) opens word r
+      → Same (ask 32 (root s) mask values) true word × TablesGrown s u cu o co u2 c2 o1 d1 × Promised s mask values (ask 32 (root s) mask values) u2 c2 o1 d1
   unfolding val
   answered-yes e ew h k n =
       let a = ask-found e ew h in (
@@ -109,8 +109,8 @@ module _ {s : List ℕ} {opens mask values : ℕ} {u : List ℕ} {cu : ℕ} {o :
       )
 
   pub answered-no : {loose w r : ℕ} {u1 : List ℕ} {c1 : ℕ} {o1 : List ℕ} {d1 : ℕ} {o2 : List ℕ} {d2 : ℕ}
-      → loose ≡ without opens mask → w ≡ values → Missed s (last s) 1 loose w r → Kept-on s u cu o co u1 c1 o1 d1 → Ensured o1 d1 o2 d2 (last s) mask values r
-      → Same (ask 32 (root s) mask values) false 0 × Kept-on s u cu o co u1 c1 o2 d2 × Promised s mask values (ask 32 (root s) mask values) u1 c1 o2 d2
+      → loose ≡ without opens mask → w ≡ values → Missed s (last s) 1 loose w r → TablesGrown s u cu o co u1 c1 o1 d1 → Ensured o1 d1 o2 d2 (last s) mask values r
+      → Same (ask 32 (root s) mask values) false 0 × TablesGrown s u cu o co u1 c1 o2 d2 × Promised s mask values (ask 32 (root s) mask values) u1 c1 o2 d2
   unfolding val
   answered-no e ew h k n =
       let a = ask-missed e ew h in (

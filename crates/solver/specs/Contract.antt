@@ -32,7 +32,7 @@ pub record Ready (s : List ℕ) (free mask values : ℕ) (u : List ℕ) (cu : �
   pub tables : Tables s u cu o co
 
 -- the tables at exit: true, with every record that was counted, and behind their counts as they were
-pub record Kept-on (s u : List ℕ) (cu : ℕ) (o : List ℕ) (co : ℕ) (u' : List ℕ) (cu' : ℕ) (o' : List ℕ) (co' : ℕ) : Type 0 where
+pub record TablesGrown (s u : List ℕ) (cu : ℕ) (o : List ℕ) (co : ℕ) (u' : List ℕ) (cu' : ℕ) (o' : List ℕ) (co' : ℕ) : Type 0 where
   pub tables : Tables s u' cu' o' co'
   pub under : Grown u cu u' cu'
   pub over : Grown o co o' co'

@@ -23,7 +23,7 @@ use Rattle.sheet.specs.Frames.{frames, kind, formula, Ordered}
 use Rattle.records.specs.Table.{Grown, grown-refl, grown-trans, explains-masked}
 use Rattle.records.specs.Put.{Put, valid-put, kept-put}
 use Rattle.records.specs.Locate.{inside-all}
-use Rattle.solver.specs.Contract.{Tables, Kept-on}
+use Rattle.solver.specs.Contract.{Tables, TablesGrown}
 use Rattle.solver.specs.Frames.{val, val-not, val-flip, Gated, Quantified, at-never, at-input, at-not, at-gate, at-quant}
 use Rattle.solver.specs.Judge.{Memo}
 use Rattle.solver.specs.Search.{Ground, Posed, Met, Missed, Told, all, Noted}
@@ -263,13 +263,13 @@ memo-set {vs = vs} {rs = rs} {k = k} {v = v} {r = r} l j f = record {
       (λ e. rw (getD-set-other vs k i v 0 (λ c. omega tests), getD-set-other rs k i r 0 (λ c. omega tests)) (j .each i h));
 }
 
-pub kept-refl : {s u : List ℕ} {cu : ℕ} {o : List ℕ} {co : ℕ} → Tables s u cu o co → Kept-on s u cu o co u cu o co
-kept-refl {u = u} {cu = cu} {o = o} {co = co} t = record { tables = t; under = grown-refl u cu; over = grown-refl o co }
+pub tables-refl : {s u : List ℕ} {cu : ℕ} {o : List ℕ} {co : ℕ} → Tables s u cu o co → TablesGrown s u cu o co u cu o co
+tables-refl {u = u} {cu = cu} {o = o} {co = co} t = record { tables = t; under = grown-refl u cu; over = grown-refl o co }
 
-pub kept-trans : {s u u' u″ : List ℕ} {cu cu' cu″ : ℕ} {o o' o″ : List ℕ} {co co' co″ : ℕ} → Kept-on s u cu o co u' cu' o' co' → Kept-on s u' cu' o' co' u″ cu″ o″ co″ → Kept-on s u cu o co u″ cu″ o″ co″
-kept-trans g h = record { tables = h .tables; under = grown-trans (g .under) (h .under); over = grown-trans (g .over) (h .over) }
+pub tables-trans : {s u u' u″ : List ℕ} {cu cu' cu″ : ℕ} {o o' o″ : List ℕ} {co co' co″ : ℕ} → TablesGrown s u cu o co u' cu' o' co' → TablesGrown s u' cu' o' co' u″ cu″ o″ co″ → TablesGrown s u cu o co u″ cu″ o″ co″
+tables-trans g h = record { tables = h .tables; under = grown-trans (g .under) (h .under); over = grown-trans (g .over) (h .over) }
 
-pub ground-after : {s u u' : List ℕ} {cu cu' : ℕ} {o o' : List ℕ} {co co' : ℕ} → Ground s u cu o co → Kept-on s u cu o co u' cu' o' co' → Ground s u' cu' o' co'
+pub ground-after : {s u u' : List ℕ} {cu cu' : ℕ} {o o' : List ℕ} {co co' : ℕ} → Ground s u cu o co → TablesGrown s u cu o co u' cu' o' co' → Ground s u' cu' o' co'
 ground-after g k = record { ordered = g .ordered; few = g .few; tables = k .tables }
 
 -- ---- a record that is kept
@@ -279,7 +279,7 @@ sub-all {x} h = inside-sub x all (inside-all 32 x h)
 
 module _ {u : List ℕ} {cu : ℕ} {o : List ℕ} {co : ℕ} {frame value mask : ℕ} (w : ℕ) where
   pub note-under : {u' : List ℕ} {cu' : ℕ} → value ≡ 1 → Put u cu u' cu' frame mask (bitAnd w mask)
-      → (s : List ℕ) → Tables s u cu o co → frame < frames s → Explains (formula s frame) (val value) (bit mask) (bit w) → Kept-on s u cu o co u' cu' o co
+      → (s : List ℕ) → Tables s u cu o co → frame < frames s → Explains (formula s frame) (val value) (bit mask) (bit w) → TablesGrown s u cu o co u' cu' o co
   unfolding val
   note-under v p s T h E = record {
     tables = record { under = valid-put (T .under) p h (and-sub w mask) (explains-masked mask w (rw v at E)); over = T .over };
@@ -288,7 +288,7 @@ module _ {u : List ℕ} {cu : ℕ} {o : List ℕ} {co : ℕ} {frame value mask :
   }
 
   pub note-over : {o' : List ℕ} {co' : ℕ} → value ≡ 0 → Put o co o' co' frame mask (bitAnd w mask)
-      → (s : List ℕ) → Tables s u cu o co → frame < frames s → Explains (formula s frame) (val value) (bit mask) (bit w) → Kept-on s u cu o co u cu o' co'
+      → (s : List ℕ) → Tables s u cu o co → frame < frames s → Explains (formula s frame) (val value) (bit mask) (bit w) → TablesGrown s u cu o co u cu o' co'
   unfolding val
   note-over v p s T h E = record {
     tables = record { under = T .under; over = valid-put (T .over) p h (and-sub w mask) (explains-masked mask w (rw v at E)) };

@@ -17,10 +17,10 @@ use Rattle.formula.specs.Reason.{Explains, explains-truth, explains-set}
 use Rattle.formula.specs.Ask.{Verdict, freeMask, ask, yes}
 use Rattle.formula.specs.Ask as Question
 use Rattle.formula.specs.Why.{always, reduce, why, startMask, startWord, explains-always, fails-always, reduce-drop, reduce-keep, reduce-skip}
-use Rattle.solver.specs.Contract.{last, root, Ready, Kept-on, Same}
+use Rattle.solver.specs.Contract.{last, root, Ready, TablesGrown, Same}
 use Rattle.solver.specs.Frames.{val, val-flip}
 use Rattle.solver.specs.Search.{Ground, Posed, Met, Missed}
-use Rattle.solver.specs.SearchLaws.{bit-plus, placed-put, off-mask, or-none, kept-refl, kept-trans}
+use Rattle.solver.specs.SearchLaws.{bit-plus, placed-put, off-mask, or-none, tables-refl, tables-trans}
 use Rattle.solver.specs.Ask.{ready-bounded, reason-inside, reason-free}
 
 -- what is left of w is the cube m, y, inside which the variables of r force the last frame's truth v
@@ -150,7 +150,7 @@ module _ {s : List ℕ} {opens mask values : ℕ} {u : List ℕ} {cu : ℕ} {o :
       (or-sub (sub-trans (R .valued) (R .entered)) (sub-trans i (without-sub opens mask)))
 
   -- the cube m, y that WHY starts from, with the tables that the search left
-  pub ready-from : {m y : ℕ} {u1 : List ℕ} {c1 : ℕ} {o1 : List ℕ} {d1 : ℕ} → Sub m opens → Sub y m → Kept-on s u cu o co u1 c1 o1 d1 → Ready s opens m y u1 c1 o1 d1
+  pub ready-from : {m y : ℕ} {u1 : List ℕ} {c1 : ℕ} {o1 : List ℕ} {d1 : ℕ} → Sub m opens → Sub y m → TablesGrown s u cu o co u1 c1 o1 d1 → Ready s opens m y u1 c1 o1 d1
   ready-from i j k = record { ordered = R .ordered; some = R .some; few = R .few; opens = R .opens; entered = i; valued = j; tables = k .tables }
 
   pub why-yes : {word m : ℕ} → ask 32 (root s) mask values ≡ yes word → m ≡ reduce 32 (root s) word (val 1) 32 opens → Same (why 32 (root s) mask values) true m
@@ -168,14 +168,14 @@ pub record Reducing (s : List ℕ) (opens v m₀ w : ℕ) (u₀ : List ℕ) (cu�
   pub turned : reduce 32 (root s) w (val v) 32 m₀ ≡ reduce 32 (root s) w (val v) x m
   pub held : Held s v w m y r
   pub ready : Ready s opens m y u cu o co
-  pub kept : Kept-on s u₀ cu₀ o₀ co₀ u cu o co
+  pub kept : TablesGrown s u₀ cu₀ o₀ co₀ u cu o co
 
 pub reducing-start : {s : List ℕ} {opens v m w r : ℕ} {u : List ℕ} {cu : ℕ} {o : List ℕ} {co : ℕ} → Ready s opens m w u cu o co → Held s v w m w r → Reducing s opens v m w u cu o co 32 m w r u cu o co
-reducing-start R h = record { low = omega arith; turned = refl; held = h; ready = R; kept = kept-refl (R .tables) }
+reducing-start R h = record { low = omega arith; turned = refl; held = h; ready = R; kept = tables-refl (R .tables) }
 
 module _ {s : List ℕ} {opens v m₀ w : ℕ} {u₀ : List ℕ} {cu₀ : ℕ} {o₀ : List ℕ} {co₀ x m y r : ℕ} {u : List ℕ} {cu : ℕ} {o : List ℕ} {co : ℕ}
     (I : Reducing s opens v m₀ w u₀ cu₀ o₀ co₀ x m y r u cu o co) where
-  pub reducing-next : {m′ y′ r′ : ℕ} {u' : List ℕ} {cu' : ℕ} {o' : List ℕ} {co' : ℕ} → 0 < x → Turned s v m y r (x - 1) m′ y′ r′ → Kept-on s u cu o co u' cu' o' co'
+  pub reducing-next : {m′ y′ r′ : ℕ} {u' : List ℕ} {cu' : ℕ} {o' : List ℕ} {co' : ℕ} → 0 < x → Turned s v m y r (x - 1) m′ y′ r′ → TablesGrown s u cu o co u' cu' o' co'
       → Reducing s opens v m₀ w u₀ cu₀ o₀ co₀ (x - 1) m′ y′ r′ u' cu' o' co'
   reducing-next {m′} {y′} {r′} h t k = record {
     low = omega (arith, I .low);
@@ -190,7 +190,7 @@ module _ {s : List ℕ} {opens v m₀ w : ℕ} {u₀ : List ℕ} {cu₀ : ℕ} {
       valued = t .valued (I .ready .valued);
       tables = k .tables;
     };
-    kept = kept-trans (I .kept) k;
+    kept = tables-trans (I .kept) k;
   }
     where
       one : x ≡ suc (x - 1)

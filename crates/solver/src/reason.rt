@@ -5,7 +5,7 @@ use cube::Cube;
 ghost use mathlib.Core.Path.{_≡_};
 ghost use Prim.Native.Nat.{ℕ, _+_, _<_};
 ghost use Rattle.formula.specs.Why.{why, reduce};
-ghost use Rattle.solver.specs.Contract.{root, Ready, Kept-on, Same};
+ghost use Rattle.solver.specs.Contract.{root, Ready, TablesGrown, Same};
 ghost use Rattle.solver.specs.Frames.{val};
 ghost use Rattle.solver.specs.Why.{Held, Turned};
 
@@ -34,7 +34,7 @@ fn dropped(
     requires { ⌜ (v < 2) × (variable < 32) ⌝ }
     requires { ⌜ Ready (now sheet) free (cube .mask) (cube .values) (now under) nu (now over) no ⌝ }
     ensures { λ r. ⌜ Turned (now (sheet .entry)) v (cube .mask) (cube .values) reason variable (r .mask) (r .values) (r .reason) ⌝ }
-    ensures { λ r. ⌜ Kept-on (now (sheet .entry)) (now (under .entry)) nu (now (over .entry)) no (now (under .exit)) (r .under) (now (over .exit)) (r .over) ⌝ }
+    ensures { λ r. ⌜ TablesGrown (now (sheet .entry)) (now (under .entry)) nu (now (over .entry)) no (now (under .exit)) (r .under) (now (over .exit)) (r .over) ⌝ }
 {
     if !words::w32::has(cube.mask, variable) {
         return Left {
@@ -101,7 +101,7 @@ fn reduced(
     requires { ⌜ Ready (now sheet) free (cube .mask) (cube .values) (now under) nu (now over) no ⌝ }
     requires { ⌜ Held (now sheet) v (cube .values) (cube .mask) (cube .values) reason ⌝ }
     ensures { λ r. ⌜ r .mask ≡ reduce 32 (root (now (sheet .entry))) (cube .values) (val v) 32 (cube .mask) ⌝ }
-    ensures { λ r. ⌜ Kept-on (now (sheet .entry)) (now (under .entry)) nu (now (over .entry)) no (now (under .exit)) (r .under) (now (over .exit)) (r .over) ⌝ }
+    ensures { λ r. ⌜ TablesGrown (now (sheet .entry)) (now (under .entry)) nu (now (over .entry)) no (now (under .exit)) (r .under) (now (over .exit)) (r .over) ⌝ }
 {
     let mut left = Left {
         mask: cube.mask,
@@ -145,7 +145,7 @@ pub fn why(
 ) -> Answered
     requires { ⌜ Ready (now sheet) free mask values (now under) nu (now over) no ⌝ }
     ensures { λ r. ⌜ Same (why 32 (root (now (sheet .entry))) mask values) (r .holds) (r .word) ⌝ }
-    ensures { λ r. ⌜ Kept-on (now (sheet .entry)) (now (under .entry)) nu (now (over .entry)) no (now (under .exit)) (r .under) (now (over .exit)) (r .over) ⌝ }
+    ensures { λ r. ⌜ TablesGrown (now (sheet .entry)) (now (under .entry)) nu (now (over .entry)) no (now (under .exit)) (r .under) (now (over .exit)) (r .over) ⌝ }
 {
     let last = sheet.len() / 4 - 1;
     let loose = words::w32::without(free, mask);

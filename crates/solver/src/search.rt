@@ -10,7 +10,7 @@ ghost use Rattle.words.specs.Word.{bit};
 ghost use Rattle.words.specs.Mask.{Sub};
 ghost use Rattle.formula.specs.Reason.{Explains};
 ghost use Rattle.sheet.specs.Frames.{frames, kind, formula};
-ghost use Rattle.solver.specs.Contract.{Tables, Kept-on};
+ghost use Rattle.solver.specs.Contract.{Tables, TablesGrown};
 ghost use Rattle.solver.specs.Frames.{val, Gated, Quantified};
 ghost use Rattle.solver.specs.Judge.{Judged, Memo};
 ghost use Rattle.solver.specs.Search.{Ground, Posed, Solved, Told, Noted};
@@ -47,7 +47,7 @@ pub fn note(
     w: u32,
 ) -> Valued
     requires { ⌜ (nu * 3 ≤ length (now under)) × (no * 3 ≤ length (now over)) × (value < 2) ⌝ }
-    ensures { λ r. ⌜ ((s : List ℕ) → Tables s (now (under .entry)) nu (now (over .entry)) no → frame < frames s → Explains (formula s frame) (val value) (bit mask) (bit w) → Kept-on s (now (under .entry)) nu (now (over .entry)) no (now (under .exit)) (r .under) (now (over .exit)) (r .over)) ⌝ }
+    ensures { λ r. ⌜ ((s : List ℕ) → Tables s (now (under .entry)) nu (now (over .entry)) no → frame < frames s → Explains (formula s frame) (val value) (bit mask) (bit w) → TablesGrown s (now (under .entry)) nu (now (over .entry)) no (now (under .exit)) (r .under) (now (over .exit)) (r .over)) ⌝ }
     ensures { λ r. ⌜ (r .value ≡ value) × (r .reason ≡ mask) × Noted frame value w (now (under .exit)) (r .under) (now (over .exit)) (r .over) ⌝ }
 {
     if value == 1 {
@@ -84,7 +84,7 @@ pub fn solve(
     requires { ⌜ Posed (now sheet) a target loose (cube .mask) (cube .values) ⌝ }
     requires { ⌜ Ground (now sheet) (now under) nu (now over) no ⌝ }
     ensures { λ r. ⌜ Solved (now (sheet .entry)) a target loose (cube .values) (r .found) (r .word) (r .reason) ⌝ }
-    ensures { λ r. ⌜ Kept-on (now (sheet .entry)) (now (under .entry)) nu (now (over .entry)) no (now (under .exit)) (r .under) (now (over .exit)) (r .over) ⌝ }
+    ensures { λ r. ⌜ TablesGrown (now (sheet .entry)) (now (under .entry)) nu (now (over .entry)) no (now (under .exit)) (r .under) (now (over .exit)) (r .over) ⌝ }
 {
     let values = [2u8; 200];
     let reasons = [0u32; 200];
@@ -121,7 +121,7 @@ fn extend(
     requires { ⌜ Judged (now sheet) (now under) 0 (now over) 0 (cube .mask) (cube .values) (now values) (now reasons) ⌝ }
     requires { ⌜ Ground (now sheet) (now under) nu (now over) no ⌝ }
     ensures { λ r. ⌜ Solved (now (sheet .entry)) a target loose (cube .values) (r .found) (r .word) (r .reason) ⌝ }
-    ensures { λ r. ⌜ Kept-on (now (sheet .entry)) (now (under .entry)) nu (now (over .entry)) no (now (under .exit)) (r .under) (now (over .exit)) (r .over) ⌝ }
+    ensures { λ r. ⌜ TablesGrown (now (sheet .entry)) (now (under .entry)) nu (now (over .entry)) no (now (under .exit)) (r .under) (now (over .exit)) (r .over) ⌝ }
 {
     let mut vs = *values;
     let mut rs = *reasons;
@@ -181,7 +181,7 @@ fn branch(
     requires { ⌜ Judged (now sheet) (now under) 0 (now over) 0 (cube .mask) (cube .values) (now values) (now reasons) ⌝ }
     requires { ⌜ Ground (now sheet) (now under) nu (now over) no ⌝ }
     ensures { λ r. ⌜ Solved (now (sheet .entry)) a target loose (cube .values) (r .found) (r .word) (r .reason) ⌝ }
-    ensures { λ r. ⌜ Kept-on (now (sheet .entry)) (now (under .entry)) nu (now (over .entry)) no (now (under .exit)) (r .under) (now (over .exit)) (r .over) ⌝ }
+    ensures { λ r. ⌜ TablesGrown (now (sheet .entry)) (now (under .entry)) nu (now (over .entry)) no (now (under .exit)) (r .under) (now (over .exit)) (r .over) ⌝ }
 {
     let x = words::w32::highest(loose);
     let only = words::w32::one(x);
@@ -247,7 +247,7 @@ fn candidate(
     requires { ⌜ Posed (now sheet) a target 0 (cube .mask) (cube .values) ⌝ }
     requires { ⌜ Ground (now sheet) (now under) nu (now over) no ⌝ }
     ensures { λ r. ⌜ Solved (now (sheet .entry)) a target 0 (cube .values) (r .found) (r .word) (r .reason) ⌝ }
-    ensures { λ r. ⌜ Kept-on (now (sheet .entry)) (now (under .entry)) nu (now (over .entry)) no (now (under .exit)) (r .under) (now (over .exit)) (r .over) ⌝ }
+    ensures { λ r. ⌜ TablesGrown (now (sheet .entry)) (now (under .entry)) nu (now (over .entry)) no (now (under .exit)) (r .under) (now (over .exit)) (r .over) ⌝ }
 {
     let mut values = [2u8; 200];
     let mut reasons = [0u32; 200];
@@ -309,7 +309,7 @@ pub fn check(
     requires { ⌜ Ground (now sheet) (now under) nu (now over) no ⌝ }
     ensures { λ r. ⌜ Told (now (sheet .entry)) i (cube .values) (r .value) (r .reason) ⌝ }
     ensures { λ r. ⌜ Memo (now (sheet .entry)) (cube .values) (now (values .exit)) (now (reasons .exit)) ⌝ }
-    ensures { λ r. ⌜ Kept-on (now (sheet .entry)) (now (under .entry)) nu (now (over .entry)) no (now (under .exit)) (r .under) (now (over .exit)) (r .over) ⌝ }
+    ensures { λ r. ⌜ TablesGrown (now (sheet .entry)) (now (under .entry)) nu (now (over .entry)) no (now (under .exit)) (r .under) (now (over .exit)) (r .over) ⌝ }
 {
     let v = values[i];
     if v < 2 {
@@ -350,7 +350,7 @@ fn evaluate(
     requires { ⌜ Ground (now sheet) (now under) nu (now over) no ⌝ }
     ensures { λ r. ⌜ Told (now (sheet .entry)) i (cube .values) (r .value) (r .reason) ⌝ }
     ensures { λ r. ⌜ Memo (now (sheet .entry)) (cube .values) (now (values .exit)) (now (reasons .exit)) ⌝ }
-    ensures { λ r. ⌜ Kept-on (now (sheet .entry)) (now (under .entry)) nu (now (over .entry)) no (now (under .exit)) (r .under) (now (over .exit)) (r .over) ⌝ }
+    ensures { λ r. ⌜ TablesGrown (now (sheet .entry)) (now (under .entry)) nu (now (over .entry)) no (now (under .exit)) (r .under) (now (over .exit)) (r .over) ⌝ }
 {
     let frame = sheet::frame_at(sheet, i);
     let kind = frame.kind;
@@ -482,7 +482,7 @@ fn gate(
     requires { ⌜ Ground (now sheet) (now under) nu (now over) no ⌝ }
     ensures { λ r. ⌜ Told (now (sheet .entry)) i (cube .values) (r .value) (r .reason) ⌝ }
     ensures { λ r. ⌜ Memo (now (sheet .entry)) (cube .values) (now (values .exit)) (now (reasons .exit)) ⌝ }
-    ensures { λ r. ⌜ Kept-on (now (sheet .entry)) (now (under .entry)) nu (now (over .entry)) no (now (under .exit)) (r .under) (now (over .exit)) (r .over) ⌝ }
+    ensures { λ r. ⌜ TablesGrown (now (sheet .entry)) (now (under .entry)) nu (now (over .entry)) no (now (under .exit)) (r .under) (now (over .exit)) (r .over) ⌝ }
 {
     let c = check(sheet, x, cube, values, reasons, under, nu, over, no);
     if c.value == d {
@@ -529,7 +529,7 @@ fn quantified(
     requires { ⌜ Ground (now sheet) (now under) nu (now over) no ⌝ }
     ensures { λ r. ⌜ Told (now (sheet .entry)) i (cube .values) (r .value) (r .reason) ⌝ }
     ensures { λ r. ⌜ Noted i (r .value) (cube .values) (now (under .exit)) (r .under) (now (over .exit)) (r .over) ⌝ }
-    ensures { λ r. ⌜ Kept-on (now (sheet .entry)) (now (under .entry)) nu (now (over .entry)) no (now (under .exit)) (r .under) (now (over .exit)) (r .over) ⌝ }
+    ensures { λ r. ⌜ TablesGrown (now (sheet .entry)) (now (under .entry)) nu (now (over .entry)) no (now (under .exit)) (r .under) (now (over .exit)) (r .over) ⌝ }
 {
     let frame = i as u32;
     let u = records::search(&under[..], nu, frame, ALL, cube.values);

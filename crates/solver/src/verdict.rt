@@ -5,7 +5,7 @@ use records::Found;
 ghost use Prim.Native.Nat.{_*_, _≤_};
 ghost use lib.ListN.{length};
 ghost use Rattle.formula.specs.Ask.{ask};
-ghost use Rattle.solver.specs.Contract.{root, Ready, Kept-on, Promised, Same};
+ghost use Rattle.solver.specs.Contract.{root, Ready, TablesGrown, Promised, Same};
 ghost use Rattle.solver.specs.Ask.{Ensured};
 
 // A verdict and its word, and how many records each table then holds.
@@ -48,7 +48,7 @@ pub fn ask(
 ) -> Answered
     requires { ⌜ Ready (now sheet) free mask values (now under) nu (now over) no ⌝ }
     ensures { λ r. ⌜ Same (ask 32 (root (now (sheet .entry))) mask values) (r .holds) (r .word) ⌝ }
-    ensures { λ r. ⌜ Kept-on (now (sheet .entry)) (now (under .entry)) nu (now (over .entry)) no (now (under .exit)) (r .under) (now (over .exit)) (r .over) ⌝ }
+    ensures { λ r. ⌜ TablesGrown (now (sheet .entry)) (now (under .entry)) nu (now (over .entry)) no (now (under .exit)) (r .under) (now (over .exit)) (r .over) ⌝ }
     ensures { λ r. ⌜ Promised (now (sheet .entry)) mask values (ask 32 (root (now (sheet .entry))) mask values) (now (under .exit)) (r .under) (now (over .exit)) (r .over) ⌝ }
 {
     let last = sheet.len() / 4 - 1;

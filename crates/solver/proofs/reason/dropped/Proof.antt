@@ -3,7 +3,7 @@ use native.Mathlib.Omega.{arith}
 use mathlib.Core.Path.{_≡_, sym, _∙_}
 use borrow.Author.Tests.{not-true}
 use Rattle.words.specs.Mask.{sub-trans}
-use Rattle.solver.specs.SearchLaws.{kept-refl}
+use Rattle.solver.specs.SearchLaws.{tables-refl}
 use Rattle.solver.specs.Ask.{ready-ground}
 use Rattle.solver.specs.Why.{turned-absent, turned-idle, turned-dropped, turned-kept, less-posed}
 use borrow.Author.Needs.{needs}
@@ -20,7 +20,7 @@ returns c =
     let has° = c .before .has in
     let if1° = c .if1 in
     let pre° = c .before .before .before .before .before .pre in
-    (turned-absent (sym (has° .ensures) ∙ not-true _ (if1° .taken)), kept-refl (pre° .1 .tables))
+    (turned-absent (sym (has° .ensures) ∙ not-true _ (if1° .taken)), tables-refl (pre° .1 .tables))
 
 free-requires : tie.Need-free-requires
 free-requires c κs = search needs
@@ -36,7 +36,7 @@ returns-2 c =
     let free° = c .before .before .free in
     let has2° = c .before .has2 in
     let if2° = c .if2 in
-    (turned-idle (pre° .1) (pre° .0 .0) (pre° .0 .1) (free° .ensures) (sym (has2° .ensures) ∙ not-true _ (if2° .taken)), kept-refl (pre° .1 .tables))
+    (turned-idle (pre° .1) (pre° .0 .0) (pre° .0 .1) (free° .ensures) (sym (has2° .ensures) ∙ not-true _ (if2° .taken)), tables-refl (pre° .1 .tables))
 
 sub-last : tie.Need-sub-last
 sub-last c =

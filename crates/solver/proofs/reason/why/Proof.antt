@@ -3,7 +3,7 @@ use native.Mathlib.Omega.{arith}
 use mathlib.Core.Path.{_≡_, refl, sym, _∙_}
 use Rattle.words.specs.Mask.{sub-refl}
 use Rattle.cube.specs.Cube.{made-same, made-sub}
-use Rattle.solver.specs.SearchLaws.{kept-trans}
+use Rattle.solver.specs.SearchLaws.{tables-trans}
 use Rattle.solver.specs.Ask.{ready-posed, ready-ground, ask-found, ask-missed}
 use Rattle.solver.specs.Why.{held-yes, held-no, why-yes, why-no, word-free, ready-from}
 use borrow.Author.Needs.{needs}
@@ -47,13 +47,13 @@ same-length : tie.Need-same-length
 same-length c =
     let solve° = c .before .before .before .before .before .before .before .before .before .before .before .before .before .solve in
     let reduced° = c .before .before .before .before .reduced in
-    kept-trans (solve° .ensures .1) (reduced° .ensures .1) .under .same
+    tables-trans (solve° .ensures .1) (reduced° .ensures .1) .under .same
 
 same-length-2 : tie.Need-same-length-2
 same-length-2 c =
     let solve° = c .before .before .before .before .before .before .before .before .before .before .before .before .before .solve in
     let reduced° = c .before .before .before .before .reduced in
-    kept-trans (solve° .ensures .1) (reduced° .ensures .1) .over .same
+    tables-trans (solve° .ensures .1) (reduced° .ensures .1) .over .same
 
 returns : tie.Need-returns
 returns c =
@@ -67,7 +67,7 @@ returns c =
     let h = rw (if1° .taken) at (solve° .ensures .0) in
     let x = made-same (of° .ensures) (pre° .valued) in
     let y = made-same (of2° .ensures) (word-free pre° (without° .ensures) x h) in
-    (why-yes pre° (ask-found pre° (without° .ensures) x h) (rw (of2° .ensures .mask, y) at (reduced° .ensures .0)), kept-trans (solve° .ensures .1) (reduced° .ensures .1))
+    (why-yes pre° (ask-found pre° (without° .ensures) x h) (rw (of2° .ensures .mask, y) at (reduced° .ensures .0)), tables-trans (solve° .ensures .1) (reduced° .ensures .1))
 
 reduced-requires-2 : tie.Need-reduced-requires-2
 reduced-requires-2 c κs =
@@ -84,13 +84,13 @@ same-length-3 : tie.Need-same-length-3
 same-length-3 c =
     let solve° = c .before .before .before .before .before .before .before .before .before .before .before .before .solve in
     let reduced2° = c .before .before .before .before .reduced2 in
-    kept-trans (solve° .ensures .1) (reduced2° .ensures .1) .under .same
+    tables-trans (solve° .ensures .1) (reduced2° .ensures .1) .under .same
 
 same-length-4 : tie.Need-same-length-4
 same-length-4 c =
     let solve° = c .before .before .before .before .before .before .before .before .before .before .before .before .solve in
     let reduced2° = c .before .before .before .before .reduced2 in
-    kept-trans (solve° .ensures .1) (reduced2° .ensures .1) .over .same
+    tables-trans (solve° .ensures .1) (reduced2° .ensures .1) .over .same
 
 returns-2 : tie.Need-returns-2
 returns-2 c =
@@ -102,7 +102,7 @@ returns-2 c =
     let reduced2° = c .before .before .before .before .reduced2 in
     let h = rw (if1° .left) at (solve° .ensures .0) in
     let x = made-same (of° .ensures) (pre° .valued) in
-    (why-no pre° (ask-missed pre° (without° .ensures) x h) (rw (of° .ensures .mask, x) at (reduced2° .ensures .0)), kept-trans (solve° .ensures .1) (reduced2° .ensures .1))
+    (why-no pre° (ask-missed pre° (without° .ensures) x h) (rw (of° .ensures .mask, x) at (reduced2° .ensures .0)), tables-trans (solve° .ensures .1) (reduced2° .ensures .1))
 
 pub why-spec : {M : Type 1} → statement M
 why-spec =

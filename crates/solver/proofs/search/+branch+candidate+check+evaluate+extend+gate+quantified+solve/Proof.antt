@@ -10,7 +10,7 @@ use Rattle.sheet.specs.Frames.{kind, frames}
 use Rattle.records.specs.Table.{matches-explains}
 use Rattle.solver.specs.Frames.{val, fit-at}
 use Rattle.solver.specs.JudgeLaws.{judged-none, judged-fixed, judged-memo, tables-none, gated-and, gated-or, quantified-exists, quantified-forall}
-use Rattle.solver.specs.SearchLaws.{met-known, missed-known, apart-inside, apart-zero, half-less, half-clear, half-posed, low-met, low-missed, high-met, high-missed, both-missed, body-posed, body-met, body-missed, told-never, told-input, told-not, told-left, told-right, told-both, memo-set, kept-refl, kept-trans, ground-after}
+use Rattle.solver.specs.SearchLaws.{met-known, missed-known, apart-inside, apart-zero, half-less, half-clear, half-posed, low-met, low-missed, high-met, high-missed, both-missed, body-posed, body-met, body-missed, told-never, told-input, told-not, told-left, told-right, told-both, memo-set, tables-refl, tables-trans, ground-after}
 use Prim.Native.Nat.{ℕ, _<_}
 use borrow.Fn.Kinds.{In}
 use borrow.Fn.PlainCycle.{Measures, is, falls, and}
@@ -315,13 +315,13 @@ branch-same-length-5 : (t : ℕ) → branch-lts.Need-same-length-5 (branch-claim
 branch-same-length-5 t c =
     let extend° = c .before .before .before .before .before .before .before .before .before .before .before .before .before .before .before .before .extend in
     let extend2° = c .before .before .before .before .before .extend2 in
-    kept-trans (extend° .ensures .1) (extend2° .ensures .1) .under .same
+    tables-trans (extend° .ensures .1) (extend2° .ensures .1) .under .same
 
 branch-same-length-6 : (t : ℕ) → branch-lts.Need-same-length-6 (branch-claims t) (branch-at t) branch.Post
 branch-same-length-6 t c =
     let extend° = c .before .before .before .before .before .before .before .before .before .before .before .before .before .before .before .before .extend in
     let extend2° = c .before .before .before .before .before .extend2 in
-    kept-trans (extend° .ensures .1) (extend2° .ensures .1) .over .same
+    tables-trans (extend° .ensures .1) (extend2° .ensures .1) .over .same
 
 branch-returns-3 : (t : ℕ) → branch-lts.Need-returns-3 (branch-claims t) (branch-at t) branch.Post
 branch-returns-3 t c =
@@ -336,7 +336,7 @@ branch-returns-3 t c =
     let fix2° = c .before .before .before .before .before .before .before .before .fix2 in
     let extend2° = c .before .before .before .before .before .extend2 in (
       rw (if3° .taken) (high-met (highest° .ensures .0) (highest° .ensures .1) (one° .ensures) (without° .ensures) (pre° .1 .1 .0) (fix° .ensures) (rw (if1° .left) at (extend° .ensures .0)) (fix2° .ensures) (rw (if3° .taken) at (extend2° .ensures .0))),
-      kept-trans (extend° .ensures .1) (extend2° .ensures .1),
+      tables-trans (extend° .ensures .1) (extend2° .ensures .1),
     )
 
 branch-has-requires-2 : (t : ℕ) → branch-lts.Need-has-requires-2 (branch-claims t) (branch-at t) branch.Post
@@ -348,13 +348,13 @@ branch-same-length-7 : (t : ℕ) → branch-lts.Need-same-length-7 (branch-claim
 branch-same-length-7 t c =
     let extend° = c .before .before .before .before .before .before .before .before .before .before .before .before .before .before .before .before .before .before .extend in
     let extend2° = c .before .before .before .before .before .before .before .extend2 in
-    kept-trans (extend° .ensures .1) (extend2° .ensures .1) .under .same
+    tables-trans (extend° .ensures .1) (extend2° .ensures .1) .under .same
 
 branch-same-length-8 : (t : ℕ) → branch-lts.Need-same-length-8 (branch-claims t) (branch-at t) branch.Post
 branch-same-length-8 t c =
     let extend° = c .before .before .before .before .before .before .before .before .before .before .before .before .before .before .before .before .before .before .extend in
     let extend2° = c .before .before .before .before .before .before .before .extend2 in
-    kept-trans (extend° .ensures .1) (extend2° .ensures .1) .over .same
+    tables-trans (extend° .ensures .1) (extend2° .ensures .1) .over .same
 
 branch-returns-4 : (t : ℕ) → branch-lts.Need-returns-4 (branch-claims t) (branch-at t) branch.Post
 branch-returns-4 t c =
@@ -369,7 +369,7 @@ branch-returns-4 t c =
     let if4° = c .if4 in
     let extend° = c .before .before .before .before .before .before .before .before .before .before .before .before .before .before .before .before .before .before .extend in (
       rw (if3° .left) (high-missed (highest° .ensures .0) (highest° .ensures .1) (one° .ensures) (without° .ensures) (pre° .1 .1 .0) (fix2° .ensures) (rw (if3° .left) at (extend2° .ensures .0)) (sym (has2° .ensures) ∙ not-true _ (if4° .taken))),
-      kept-trans (extend° .ensures .1) (extend2° .ensures .1),
+      tables-trans (extend° .ensures .1) (extend2° .ensures .1),
     )
 
 branch-without-requires-2 : (t : ℕ) → branch-lts.Need-without-requires-2 (branch-claims t) (branch-at t) branch.Post
@@ -379,13 +379,13 @@ branch-same-length-9 : (t : ℕ) → branch-lts.Need-same-length-9 (branch-claim
 branch-same-length-9 t c =
     let extend° = c .before .before .before .before .before .before .before .before .before .before .before .before .before .before .before .before .before .before .before .before .before .extend in
     let extend2° = c .before .before .before .before .before .before .before .before .before .before .extend2 in
-    kept-trans (extend° .ensures .1) (extend2° .ensures .1) .under .same
+    tables-trans (extend° .ensures .1) (extend2° .ensures .1) .under .same
 
 branch-same-length-10 : (t : ℕ) → branch-lts.Need-same-length-10 (branch-claims t) (branch-at t) branch.Post
 branch-same-length-10 t c =
     let extend° = c .before .before .before .before .before .before .before .before .before .before .before .before .before .before .before .before .before .before .before .before .before .extend in
     let extend2° = c .before .before .before .before .before .before .before .before .before .before .extend2 in
-    kept-trans (extend° .ensures .1) (extend2° .ensures .1) .over .same
+    tables-trans (extend° .ensures .1) (extend2° .ensures .1) .over .same
 
 branch-returns-5 : (t : ℕ) → branch-lts.Need-returns-5 (branch-claims t) (branch-at t) branch.Post
 branch-returns-5 t c =
@@ -401,7 +401,7 @@ branch-returns-5 t c =
     let extend2° = c .before .before .before .before .before .before .before .before .before .before .extend2 in
     let without2° = c .without2 in (
       both-missed (highest° .ensures .0) (highest° .ensures .1) (one° .ensures) (without° .ensures) (pre° .1 .1 .0) (fix° .ensures) (rw (if1° .left) at (extend° .ensures .0)) (fix2° .ensures) (rw (if3° .left) at (extend2° .ensures .0)) (without2° .ensures),
-      kept-trans (extend° .ensures .1) (extend2° .ensures .1),
+      tables-trans (extend° .ensures .1) (extend2° .ensures .1),
     )
 
 candidate-judge-requires : (t : ℕ) → candidate-lts.Need-judge-requires (candidate-claims t) (candidate-at t) candidate.Post
@@ -470,7 +470,7 @@ check-returns t c =
     let if1° = c .before .if1 in
     let pre° = c .before .before .before .before .before .before .pre in (
       record { low = if1° .taken; explains = pre° .1 .1 .0 .each _ (omega (arith, pre° .1 .0, pre° .1 .1 .1 .few)) (if1° .taken) },
-      (pre° .1 .1 .0, kept-refl (pre° .1 .1 .1 .tables)),
+      (pre° .1 .1 .0, tables-refl (pre° .1 .1 .1 .tables)),
     )
 
 check-evaluate-requires : (t : ℕ) → check-lts.Need-evaluate-requires (check-claims t) (check-at t) check.Post
@@ -535,7 +535,7 @@ evaluate-returns t c =
     let if1° = c .if1 in
     let has° = c .before .has in (
       rw (one° .ensures) (told-input (pre° .1 .1 .1 .ordered) (sym (frame-at° .ensures .1) ∙ kind° .given .1) (omega arith) (sym (if1° .taken) ∙ has° .ensures)),
-      (pre° .1 .1 .0, kept-refl (pre° .1 .1 .1 .tables)),
+      (pre° .1 .1 .0, tables-refl (pre° .1 .1 .1 .tables)),
     )
 
 evaluate-enum-known-kind-2 : (t : ℕ) → evaluate-lts.Need-enum-known-kind-2 (evaluate-claims t) (evaluate-at t) evaluate.Post
@@ -636,7 +636,7 @@ evaluate-returns-2 t c =
     let frame-at° = c .before .before .frame-at in
     let enum-told° = c .enum-told in (
       told-never (pre° .1 .1 .1 .ordered) (sym (frame-at° .ensures .1) ∙ enum-told° .given .1),
-      (pre° .1 .1 .0, kept-refl (pre° .1 .1 .1 .tables)),
+      (pre° .1 .1 .0, tables-refl (pre° .1 .1 .1 .tables)),
     )
 
 evaluate-returns-3 : (t : ℕ) → evaluate-lts.Need-returns-3 (evaluate-claims t) (evaluate-at t) evaluate.Post
@@ -649,7 +649,7 @@ evaluate-returns-3 t c =
     let if1° = c .if1 in
     let has° = c .before .has in (
       rw (one° .ensures) (told-input (pre° .1 .1 .1 .ordered) (sym (frame-at° .ensures .1) ∙ kind° .given .1) (omega arith) (sym (if1° .left) ∙ has° .ensures)),
-      (pre° .1 .1 .0, kept-refl (pre° .1 .1 .1 .tables)),
+      (pre° .1 .1 .0, tables-refl (pre° .1 .1 .1 .tables)),
     )
 
 evaluate-same-length : (t : ℕ) → evaluate-lts.Need-same-length (evaluate-claims t) (evaluate-at t) evaluate.Post
@@ -768,7 +768,7 @@ extend-returns t c =
     let if1° = c .before .if1 in
     let if2° = c .if2 in
     let f = judge° .ensures .each _ (omega (arith, pre° .1 .0 .here, pre° .1 .1 .1 .few)) (if1° .taken) in
-    (met-known _ (f .explains) (if2° .taken), kept-refl (pre° .1 .1 .1 .tables))
+    (met-known _ (f .explains) (if2° .taken), tables-refl (pre° .1 .1 .1 .tables))
 
 extend-same-length-3 : (t : ℕ) → extend-lts.Need-same-length-3 (extend-claims t) (extend-at t) extend.Post
 extend-same-length-3 t c = search needs
@@ -783,7 +783,7 @@ extend-returns-2 t c =
     let if1° = c .before .if1 in
     let if2° = c .if2 in
     let f = judge° .ensures .each _ (omega (arith, pre° .1 .0 .here, pre° .1 .1 .1 .few)) (if1° .taken) in
-    (missed-known (f .explains) (if1° .taken) (pre° .1 .0 .target) (if2° .left) (apart-inside (f .assigned) (pre° .1 .0 .apart)), kept-refl (pre° .1 .1 .1 .tables))
+    (missed-known (f .explains) (if1° .taken) (pre° .1 .0 .target) (if2° .left) (apart-inside (f .assigned) (pre° .1 .0 .apart)), tables-refl (pre° .1 .1 .1 .tables))
 
 extend-candidate-requires : (t : ℕ) → extend-lts.Need-candidate-requires (extend-claims t) (extend-at t) extend.Post
 extend-candidate-requires t c κs =
@@ -861,13 +861,13 @@ gate-same-length-3 : (t : ℕ) → gate-lts.Need-same-length-3 (gate-claims t) (
 gate-same-length-3 t c =
     let check° = c .before .before .before .before .before .before .before .before .before .before .before .before .before .before .before .before .before .check in
     let check2° = c .before .before .before .before .before .before .check2 in
-    kept-trans (check° .ensures .1 .1) (check2° .ensures .1 .1) .under .same
+    tables-trans (check° .ensures .1 .1) (check2° .ensures .1 .1) .under .same
 
 gate-same-length-4 : (t : ℕ) → gate-lts.Need-same-length-4 (gate-claims t) (gate-at t) gate.Post
 gate-same-length-4 t c =
     let check° = c .before .before .before .before .before .before .before .before .before .before .before .before .before .before .before .before .before .check in
     let check2° = c .before .before .before .before .before .before .check2 in
-    kept-trans (check° .ensures .1 .1) (check2° .ensures .1 .1) .over .same
+    tables-trans (check° .ensures .1 .1) (check2° .ensures .1 .1) .over .same
 
 gate-returns-2 : (t : ℕ) → gate-lts.Need-returns-2 (gate-claims t) (gate-at t) gate.Post
 gate-returns-2 t c =
@@ -876,20 +876,20 @@ gate-returns-2 t c =
     let if2° = c .if2 in
     let check° = c .before .before .before .before .before .before .before .before .before .before .before .before .before .before .before .before .before .check in (
       told-right (pre° .1 .1 .1 .ordered) (pre° .1 .0 .4) (check2° .ensures .0) (if2° .taken),
-      (check2° .ensures .1 .0, kept-trans (check° .ensures .1 .1) (check2° .ensures .1 .1)),
+      (check2° .ensures .1 .0, tables-trans (check° .ensures .1 .1) (check2° .ensures .1 .1)),
     )
 
 gate-same-length-5 : (t : ℕ) → gate-lts.Need-same-length-5 (gate-claims t) (gate-at t) gate.Post
 gate-same-length-5 t c =
     let check° = c .before .before .before .before .before .before .before .before .before .before .before .before .before .before .before .before .before .before .before .check in
     let check2° = c .before .before .before .before .before .before .before .before .check2 in
-    kept-trans (check° .ensures .1 .1) (check2° .ensures .1 .1) .under .same
+    tables-trans (check° .ensures .1 .1) (check2° .ensures .1 .1) .under .same
 
 gate-same-length-6 : (t : ℕ) → gate-lts.Need-same-length-6 (gate-claims t) (gate-at t) gate.Post
 gate-same-length-6 t c =
     let check° = c .before .before .before .before .before .before .before .before .before .before .before .before .before .before .before .before .before .before .before .check in
     let check2° = c .before .before .before .before .before .before .before .before .check2 in
-    kept-trans (check° .ensures .1 .1) (check2° .ensures .1 .1) .over .same
+    tables-trans (check° .ensures .1 .1) (check2° .ensures .1 .1) .over .same
 
 gate-returns-3 : (t : ℕ) → gate-lts.Need-returns-3 (gate-claims t) (gate-at t) gate.Post
 gate-returns-3 t c =
@@ -899,7 +899,7 @@ gate-returns-3 t c =
     let check2° = c .before .before .before .before .before .before .before .before .check2 in
     let if2° = c .before .before .if2 in (
       told-both (pre° .1 .1 .1 .ordered) (pre° .1 .0 .4) (pre° .1 .0 .3) (check° .ensures .0) (if1° .left) (check2° .ensures .0) (if2° .left),
-      (check2° .ensures .1 .0, kept-trans (check° .ensures .1 .1) (check2° .ensures .1 .1)),
+      (check2° .ensures .1 .0, tables-trans (check° .ensures .1 .1) (check2° .ensures .1 .1)),
     )
 
 quantified-cast-frame : (t : ℕ) → quantified-lts.Need-cast-frame (quantified-claims t) (quantified-at t) quantified.Post
@@ -932,7 +932,7 @@ quantified-returns t c =
     let pre° = c .before .before .before .before .before .before .before .before .before .before .pre in
     let f = rw (u° .given .1) at (search° .ensures) in (
       record { low = omega arith; explains = rw (mask-of° .ensures) (matches-explains _ _ _ _ (pre° .1 .1 .tables .under) (f .counted) (f .hit)) },
-      (record { under = λ e. inr (_, f .counted, f .hit); over = λ e. absurd (omega (arith, e)) }, kept-refl (pre° .1 .1 .tables)),
+      (record { under = λ e. inr (_, f .counted, f .hit); over = λ e. absurd (omega (arith, e)) }, tables-refl (pre° .1 .1 .tables)),
     )
 
 quantified-enum-told : (t : ℕ) → quantified-lts.Need-enum-told (quantified-claims t) (quantified-at t) quantified.Post
@@ -968,7 +968,7 @@ quantified-returns-2 t c =
     let pre° = c .before .before .before .before .before .before .before .before .before .before .before .before .before .before .pre in
     let f = rw (o° .given .1) at (search2° .ensures) in (
       record { low = omega arith; explains = rw (mask-of2° .ensures) (matches-explains _ _ _ _ (pre° .1 .1 .tables .over) (f .counted) (f .hit)) },
-      (record { under = λ e. absurd (omega (arith, e)); over = λ e. inr (_, f .counted, f .hit) }, kept-refl (pre° .1 .1 .tables)),
+      (record { under = λ e. absurd (omega (arith, e)); over = λ e. inr (_, f .counted, f .hit) }, tables-refl (pre° .1 .1 .tables)),
     )
 
 quantified-enum-told-2 : (t : ℕ) → quantified-lts.Need-enum-told-2 (quantified-claims t) (quantified-at t) quantified.Post
@@ -1020,7 +1020,7 @@ quantified-returns-3 t c =
     let note° = c .before .before .before .before .note in
     let e = body-met _ _ _ (pre° .1 .1 .ordered) (pre° .1 .0 .4) (range-mask° .ensures) (without2° .ensures) (rw (if1° .taken) at (solve° .ensures .0)) (without3° .ensures) in (
       rw (note° .ensures .1 .0, note° .ensures .1 .1) (record { low = pre° .1 .0 .2; explains = e }),
-      (rw (note° .ensures .1 .0) (note° .ensures .1 .2), kept-trans (solve° .ensures .1) (note° .ensures .0 _ (solve° .ensures .1 .tables) (pre° .1 .0 .0) e)),
+      (rw (note° .ensures .1 .0) (note° .ensures .1 .2), tables-trans (solve° .ensures .1) (note° .ensures .0 _ (solve° .ensures .1 .tables) (pre° .1 .0 .0) e)),
     )
 
 quantified-sub-note : (t : ℕ) → quantified-lts.Need-sub-note (quantified-claims t) (quantified-at t) quantified.Post
@@ -1050,7 +1050,7 @@ quantified-returns-4 t c =
     let note2° = c .before .before .before .before .note2 in
     let e = body-missed _ _ _ (pre° .1 .1 .ordered) (pre° .1 .0 .4) (range-mask° .ensures) (without2° .ensures) (pre° .1 .0 .2) (rw (if1° .left) at (solve° .ensures .0)) (without3° .ensures) in (
       rw (note2° .ensures .1 .0, note2° .ensures .1 .1) (record { low = omega arith; explains = e }),
-      (rw (note2° .ensures .1 .0) (note2° .ensures .1 .2), kept-trans (solve° .ensures .1) (note2° .ensures .0 _ (solve° .ensures .1 .tables) (pre° .1 .0 .0) e)),
+      (rw (note2° .ensures .1 .0) (note2° .ensures .1 .2), tables-trans (solve° .ensures .1) (note2° .ensures .0 _ (solve° .ensures .1 .tables) (pre° .1 .0 .0) e)),
     )
 
 solve-extend-requires : (t : ℕ) → solve-lts.Need-extend-requires (solve-claims t) (solve-at t) solve.Post
