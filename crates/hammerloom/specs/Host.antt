@@ -1,11 +1,12 @@
 -- What a C host gets from one call: the number that is returned, and the answers at exit, for every input. Assumes nothing.
-use Prim.Native.Nat.{ℕ, _+_, _*_, _<_}
+use Prim.Native.Nat.{ℕ, _+_, _*_, _/_, _%_, _<_}
 use native.Mathlib.Omega.{arith}
 use mathlib.Core.Path.{_≡_, sym, _∙_, ap₂}
 use mathlib.Core.List.{List, _++_}
 use lib.ListN.{length, drop}
 use Rattle.session.specs.Model.{answerLength, lines, answers}
 use Rattle.run.specs.Run.{refusal, book, Run}
+use Rattle.run.specs.Bounds.{place-below}
 
 -- ans at entry and, primed, at exit; r is what the host gets
 pub record Host (sheet script ans ans' : List ℕ) (r : ℕ) : Type 0 where
@@ -22,3 +23,10 @@ host-run g e = record {
   untouched = λ h. g .answered .untouched (omega (arith, g .answered .number-is)) .0;
   written = λ h. g .answered .written (g .answered .number-is ∙ h);
 }
+
+-- The host's macros give number and place back: the number returned by 256, and what is left over.
+pub host-decodes : {sheet script ans ans' : List ℕ} {r : ℕ} → Host sheet script ans ans' r
+    → (r / 256 ≡ refusal sheet script (length ans) .number) × (r % 256 ≡ refusal sheet script (length ans) .place)
+host-decodes {sheet} {script} {ans} h =
+    let b = place-below sheet script (length ans) in
+    (omega (arith, h .told, b), omega (arith, h .told, b))

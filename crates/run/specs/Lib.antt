@@ -1,6 +1,7 @@
 pub mod Run
 pub mod Call
 pub mod Accept
+pub mod Bounds
 pub mod Before
 pub mod Exists
 pub mod Same
