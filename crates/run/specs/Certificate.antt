@@ -2,6 +2,7 @@
 use Prim.Native.Nat.{ℕ, _+_, _*_, _≤_, _<_}
 use native.Mathlib.Omega.{arith}
 use mathlib.Core.Path.{_≡_, sym, ap, _∙_}
+use mathlib.Core.Bool.{false}
 use mathlib.Core.Logic.{_↔_}
 use mathlib.Core.List.{List, [], _++_}
 use lib.ListN.{length, take, drop, length-append, length-drop}
@@ -11,11 +12,13 @@ use Rattle.formula.specs.Why.{why}
 use Rattle.sheet.specs.Cause.{Refusal, Foremost}
 use Rattle.sheet.specs.Rules.{variables}
 use Rattle.solver.specs.Contract.{root, Tables}
-use Rattle.session.specs.Model.{enteredMask, enteredValues, Reply, answerLength, answerBytes, refused, judged, WHY, lines, lineAt, answerAt, answers, meaning}
+use Rattle.session.specs.Model.{enteredMask, enteredValues, Reply, answerLength, answerBytes, refused, judged, TAKE-BACK, WHY, lines, lineAt, answerAt, answers, meaning}
 use Rattle.session.specs.Line.{refused-same, refused-answer}
 use Rattle.session.specs.Kinds.{ask-taken, why-taken}
 use Rattle.session.specs.Script.{after-next, length-answersTo, answer-bytes}
-use Rattle.run.specs.Run.{refusal, causes, book, before, Taken, Asked, Promised-at}
+use Rattle.session.specs.Step.{searches}
+use Rattle.run.specs.Run.{refusal, causes, book, before, kindAt, Taken, Asked, Held, asLent, Grows, Promised-at}
+use Rattle.run.specs.History.{True, lent-true, promised-grows, history-true, history-grows}
 use Rattle.run.specs.Call.{Call, Meets}
 use Rattle.run.specs.Accept.{Proper, number-proper, proper-accepted, refused-foremost}
 use Rattle.run.specs.Before.{before-entered}
@@ -78,14 +81,6 @@ module _ (sheet script : List ℕ) (o : Call) (R : Meets sheet script o) where
     pub same-length : length (o .ans') ≡ length (o .ans)
     same-length = rw (R .answered .written accepted, length-append, length-drop, model-length) (omega (arith, kept .room))
 
-    -- Every counted record is true of its frame: under records of one that is true, over records of one that is false.
-    pub records-true : Tables sheet (o .under') (o .cu) (o .over') (o .co)
-    records-true = R .recorded accepted .kept .tables
-
-    -- For every ASK that was answered, at exit the table concerned is full or holds the record that document 01 promises.
-    pub records-promised : (i : ℕ) → Asked sheet script i → Promised-at sheet script i (o .under') (o .cu) (o .over') (o .co)
-    records-promised = R .recorded accepted .promised
-
     -- ---- condition 2
 
     -- At every ASK of the script that is not refused, with the entries that then stand: the verdict is yes exactly if some assignment that agrees with
@@ -112,12 +107,54 @@ module _ (sheet script : List ℕ) (o : Call) (R : Meets sheet script o) where
           why-reason sheet es (kept .sheet-kept) (before-entered sheet script i),
         )
 
-    -- A refused line changes nothing: the entries after it are those before it, and its answer is its number with V 0 and word 0.
+    -- ---- the records
+
+    -- Both tables before line i of the script, and how many records of each count; after the last line they are those at exit.
+    abbrev pub records : ℕ → Held
+    records i = R .recorded accepted .records i
+
+    -- A run starts from no record, whatever the tables hold, and ends with those that it tells.
+    pub records-lent : records 0 ≡ asLent (o .under) (o .over)
+    records-lent = R .recorded accepted .starts
+
+    pub records-left : records (lines script) ≡ record { under = o .under'; cu = o .cu; over = o .over'; co = o .co }
+    records-left = R .recorded accepted .ends
+
+    -- At every moment each counted record is true of its frame: under records of one that is true, over records of one that is false.
+    pub always-true : (i : ℕ) → i ≤ lines script → True sheet (records i)
+    always-true = history-true (R .recorded accepted) (lent-true sheet (o .under) (o .over))
+
+    pub records-true : Tables sheet (o .under') (o .cu) (o .over') (o .co)
+    records-true = rw records-left at (always-true (lines script) (omega arith))
+
+    -- From any line to a later one the counted records stay, and the numbers behind the counts are as found.
+    pub records-stay : (i j : ℕ) → i ≤ j → j ≤ lines script → Grows sheet (records i) (records j)
+    records-stay = history-grows (R .recorded accepted) (lent-true sheet (o .under) (o .over))
+
+    -- Records survive TAKE BACK: it leaves the tables and the counts as they are, and so do ENTER and READ.
+    pub quiet-records : (i : ℕ) → i < lines script → searches (kindAt script i) ≡ false → records (i + 1) ≡ records i
+    quiet-records i l e = R .recorded accepted .each i (omega arith) .quiet e
+
+    pub back-records : (i : ℕ) → Taken TAKE-BACK sheet script i → records (i + 1) ≡ records i
+    back-records i t = quiet-records i (t .line) (rw (t .kind))
+
+    -- After each ASK that is answered the table concerned is full or holds the record that document 01 promises; it does so at exit too.
+    pub asked-promised : (i : ℕ) → Asked sheet script i → Promised-at sheet script i (records (i + 1))
+    asked-promised i a = R .recorded accepted .each i (omega (arith, a .line)) .promised a
+
+    pub records-promised : (i : ℕ) → Asked sheet script i → Promised-at sheet script i (record { under = o .under'; cu = o .cu; over = o .over'; co = o .co })
+    records-promised i a = rw records-left at (promised-grows script i (records-stay (i + 1) (lines script) (omega (arith, a .line)) (omega arith)) (asked-promised i a))
+
+    -- ---- a refused line
+
+    -- A refused line changes nothing: the entries and the records after it are those before it, and its answer is its number with V 0 and word 0.
     pub refused-line : (i : ℕ) → i < lines script → 0 < answerAt (book sheet) [] script i .number
-        → (before sheet script (i + 1) ≡ before sheet script i) × (lineBytes o i ≡ answerBytes (refused (answerAt (book sheet) [] script i .number)))
+        → (before sheet script (i + 1) ≡ before sheet script i) × (records (i + 1) ≡ records i)
+        × (lineBytes o i ≡ answerBytes (refused (answerAt (book sheet) [] script i .number)))
     unfolding answerAt lineAt
     refused-line i l h =
         let es = before sheet script i in (
           after-next (book sheet) [] script i ∙ refused-same (book sheet) es _ _ _ _ h,
+          R .recorded accepted .each i (omega arith) .refused (omega arith),
           one-answer i l ∙ ap answerBytes (refused-answer (book sheet) es _ _ _ _ h),
         )

@@ -1,14 +1,14 @@
 -- The certificate, condition 3: one claim about whole scripts, over all calls that meet run's contract. Each theorem stands under its sentence. Assumes nothing.
-use Prim.Native.Nat.{ℕ}
+use Prim.Native.Nat.{ℕ, _<_}
 use mathlib.Core.Path.{_≡_}
-use mathlib.Core.Logic.{_↔_}
+use mathlib.Core.Logic.{_↔_, ⊎-elim}
 use mathlib.Core.List.{List}
 use Rattle.sheet.specs.Keeps.{Keeps}
 use Rattle.session.specs.Model.{standing}
 use Rattle.run.specs.Run.{book}
 use Rattle.run.specs.Call.{Call, Lent, Meets}
 use Rattle.run.specs.Exists.{some-call}
-use Rattle.run.specs.Same.{Earlier, Alike, SomeAlike, same-alike, alike-same, alike-some}
+use Rattle.run.specs.Same.{Earlier, Alike, SomeAlike, ReadApart, same-alike, same-or-read, alike-same, alike-some}
 
 -- For every sheet, script, answer buffer and tables some output meets run's contract.
 pub every-input : (sheet script ans under over : List ℕ) → (o : Call) × Meets sheet script o × Lent o ans under over
@@ -25,3 +25,7 @@ module _ (sheet a b : List ℕ) (K : Keeps sheet) (A : Earlier a) (B : Earlier b
   -- Both directions in one: the same entries stand exactly if no further script tells the two apart.
   pub equal-exactly : (standing (book sheet) a ≡ standing (book sheet) b) ↔ Alike sheet a b
   equal-exactly = (same-alike sheet a b K A B, λ h. alike-same sheet a b K A B (alike-some sheet a b K A B h))
+
+  -- If they leave different entries standing, one READ shows it: there is a place whose READ the two answer differently, in all such runs.
+  pub one-read : (standing (book sheet) a ≡ standing (book sheet) b → ⊥) → (i : ℕ) × (i < 256) × ReadApart sheet a b i
+  one-read f = ⊎-elim (λ s. absurd (f s)) (λ r. r) (same-or-read sheet a b K A B)

@@ -1,39 +1,43 @@
--- For every input some output meets run's contract: the reference model's answers, and for each line the record that ASK's verdict would call for, while there
--- is room. Assumes nothing.
-use Prim.Native.Nat.{ℕ, zero, suc, _*_, _<_}
+-- For every input some output meets run's contract: the reference model's answers, and for each ASK that is answered the record that its verdict calls for,
+-- while there is room; no other line keeps one. Assumes nothing.
+use Prim.Native.Nat.{ℕ, zero, suc, _+_, _*_, _<_}
 use native.Mathlib.Omega.{arith}
+use native.Mathlib.Numerals.{add-one}
 use mathlib.Core.Path.{_≡_, refl, sym, _∙_, subst}
-use mathlib.Core.Bool.{Bool, true, false}
-use mathlib.Core.List.{List, _++_}
+use mathlib.Core.Bool.{Bool, true, false, _&&_}
+use mathlib.Core.List.{List, [], _++_}
 use lib.ListN.{length, drop}
 use lib.Dec.{eqb, ltb}
-use Rattle.words.specs.Logic.{by-bool, clash, tests}
+use borrow.Author.Tests.{eq-eqb}
+use Rattle.words.specs.Logic.{by-bool, clash, and-both, or-left, tests}
 use Rattle.words.specs.Word.{bit}
 use Rattle.words.specs.Mask.{Sub, sub-refl, sub-bits, bits-sub, bits-agree}
 use Rattle.formula.specs.Formula.{Formula, free}
 use Rattle.formula.specs.Reason.{Explains, explains-all, explains-mask}
 use Rattle.formula.specs.Ask.{Verdict, freeMask, ask, Entries, bit-free, ask-word, ask-never}
-use Rattle.sheet.specs.Frames.{frames, formula}
+use Rattle.sheet.specs.Frames.{frames}
 use Rattle.sheet.specs.Rules.{variables}
 use Rattle.sheet.specs.Keeps.{Keeps}
-use Rattle.records.specs.Table.{room, Grown, valid-empty, grown-refl, grown-trans, kept-grown}
+use Rattle.records.specs.Table.{room, grown-refl}
 use Rattle.records.specs.Put.{Put, put-next, put-full, valid-put, kept-put, stored}
-use Rattle.solver.specs.Contract.{last, root, TablesGrown}
-use Rattle.session.specs.Model.{enteredMask, enteredValues, answerLength, lines, answers}
-use Rattle.run.specs.Run.{refusal, book, before, Promised-at}
+use Rattle.solver.specs.Contract.{last, root}
+use Rattle.session.specs.Model.{enteredMask, enteredValues, answerLength, ASK, lines, answerAt, answers}
+use Rattle.session.specs.Step.{searches}
+use Rattle.run.specs.Run.{refusal, book, before, kindAt, Held, asLent, Grows, Promised-at, LineRecords, History}
+use Rattle.run.specs.History.{True, lent-true, grows-none, history-none, history-next, history-true}
 use Rattle.run.specs.Call.{Call, Lent, Meets}
 use Rattle.run.specs.Accept.{number-proper}
 use Rattle.run.specs.Before.{before-entered, book-entries}
 
 -- ---- one record put into a table
 
-pub record Grows (t : List ℕ) (count frame mask values : ℕ) : Type 0 where
-  pub table : List ℕ
-  pub count' : ℕ
-  pub put : Put t count table count' frame mask values
+record OneMore (t : List ℕ) (count frame mask values : ℕ) : Type 0 where
+  table : List ℕ
+  count' : ℕ
+  put : Put t count table count' frame mask values
 
-grow : (t : List ℕ) (count frame mask values : ℕ) → Grows t count frame mask values
-grow t count frame mask values = by-bool (ltb count (room t))
+one-more : (t : List ℕ) (count frame mask values : ℕ) → OneMore t count frame mask values
+one-more t count frame mask values = by-bool (ltb count (room t))
     (λ e. record { table = stored t (count * 3) frame mask values; count' = _; put = put-next t count frame mask values (omega tests) })
     (λ e. record { table = t; count' = count; put = put-full t count frame mask values (omega tests) })
 
@@ -52,94 +56,102 @@ module _ (f : Formula) (mask values : ℕ) (E : Entries variables f mask values)
   no-explains : ask variables f mask values .holds ≡ false → Explains f false (bit mask) (bit values)
   no-explains e = record { inside = λ k h. sym (bit-free (E .bounded) k) ∙ bits-sub (E .opened) k h; forces = ask-never E e }
 
--- ---- the tables after the first i lines
+-- ---- line i
 
-record Filled (sheet script under over : List ℕ) (i : ℕ) : Type 0 where
-  u : List ℕ
-  cu : ℕ
-  o : List ℕ
-  co : ℕ
-  kept : TablesGrown sheet under 0 over 0 u cu o co
-  promised : (j : ℕ) → j < i → Promised-at sheet script j u cu o co
+module _ (sheet script : List ℕ) (K : Keeps sheet) (i : ℕ) where
+  abbrev f : Formula
+  f = root sheet
+
+  abbrev mask : ℕ
+  mask = enteredMask (before sheet script i)
+
+  abbrev values : ℕ
+  values = enteredValues (before sheet script i)
+
+  abbrev verdict : Verdict
+  verdict = ask variables f mask values
+
+  entries : Entries variables f mask values
+  entries = book-entries sheet (before sheet script i) K (before-entered sheet script i)
+
+  below : last sheet < frames sheet
+  below = omega (arith, K .least)
+
+  -- the records after line i, where they were h before it
+  record Next (h : Held) : Type 0 where
+    next : Held
+    line : LineRecords sheet script i h next
+
+  -- it is an ASK, and is answered
+  abbrev asks : Bool
+  asks = eqb (kindAt script i) ASK && eqb (answerAt (book sheet) [] script i .number) 0
+
+  module _ (h : Held) (t : True sheet h) where
+    -- records that grew by the one that the verdict calls for
+    asked-next : asks ≡ true → (h' : Held) → Grows sheet h h' → Promised-at sheet script i h' → Next h
+    asked-next e h' g p =
+        let q = and-both (eqb (kindAt script i) ASK) (eqb (answerAt (book sheet) [] script i .number) 0) e in
+        record {
+          next = h';
+          line = record {
+            grows = g;
+            refused = λ r. absurd (omega (tests, q .1));
+            quiet = λ z. clash (searches (kindAt script i)) (or-left (eqb (kindAt script i) ASK) _ (q .0)) z;
+            promised = λ a. p;
+          };
+        }
+
+    yes-next : asks ≡ true → verdict .holds ≡ true → Next h
+    yes-next a e =
+        let G = one-more (h .under) (h .cu) (last sheet) (freeMask variables f) (verdict .word) in
+        let s = yes-inside f mask values entries e in
+        let valid = valid-put (t .under) (G .put) below s (yes-explains f mask values entries e) in
+        asked-next a (record { under = G .table; cu = G .count'; over = h .over; co = h .co })
+        (record { tables = record { under = valid; over = t .over }; under = G .put .grown; over = grown-refl (h .over) (h .co) }) (
+          λ y. kept-put (freeMask variables f) (verdict .word) (G .put) (sub-refl (freeMask variables f)) (bits-agree _ _ _ s (λ k i. refl)),
+          λ n. clash (verdict .holds) e n,
+        )
+
+    no-next : asks ≡ true → verdict .holds ≡ false → Next h
+    no-next a e =
+        let G = one-more (h .over) (h .co) (last sheet) mask values in
+        let valid = valid-put (t .over) (G .put) below (entries .valued) (no-explains f mask values entries e) in
+        asked-next a (record { under = h .under; cu = h .cu; over = G .table; co = G .count' })
+        (record { tables = record { under = t .under; over = valid }; under = grown-refl (h .under) (h .cu); over = G .put .grown }) (
+          λ y. clash (verdict .holds) y e,
+          λ n. kept-put mask values (G .put) (sub-refl mask) (bits-agree _ _ _ (entries .valued) (λ k i. refl)),
+        )
+
+    other-next : asks ≡ false → Next h
+    other-next e = record {
+      next = h;
+      line = record {
+        grows = grows-none h t;
+        refused = λ r. refl;
+        quiet = λ z. refl;
+        promised = λ a. clash asks (rw (eq-eqb (kindAt script i) ASK (a .kind), eq-eqb _ 0 (a .taken))) e;
+      };
+    }
+
+    some-next : Next h
+    some-next = by-bool asks (λ a. by-bool (verdict .holds) (yes-next a) (no-next a)) other-next
+
+-- ---- the first n lines
+
+record Filled (sheet script under over : List ℕ) (n : ℕ) : Type 0 where
+  exit : Held
+  history : History sheet script n (asLent under over) exit
 
 module _ (sheet script under over : List ℕ) (K : Keeps sheet) where
-  none-filled : Filled sheet script under over 0
-  none-filled = record {
-    u = under;
-    cu = 0;
-    o = over;
-    co = 0;
-    kept = record {
-      tables = record { under = valid-empty (formula sheet) (frames sheet) true under; over = valid-empty (formula sheet) (frames sheet) false over };
-      under = grown-refl under 0;
-      over = grown-refl over 0;
-    };
-    promised = λ j h. absurd (omega arith);
-  }
+  filled-true : {n : ℕ} (F : Filled sheet script under over n) → True sheet (F .exit)
+  filled-true {n} F = rw (F .history .ends) at (history-true (F .history) (lent-true sheet under over) n (omega arith))
 
-  module _ (i : ℕ) (S : Filled sheet script under over i) where
-    abbrev f : Formula
-    f = root sheet
+  filled-next : (n : ℕ) (F : Filled sheet script under over n) → Next sheet script K n (F .exit) → Filled sheet script under over (n + 1)
+  filled-next n F S = record { exit = S .next; history = history-next (F .history) (S .line) }
 
-    abbrev mask : ℕ
-    mask = enteredMask (before sheet script i)
-
-    abbrev values : ℕ
-    values = enteredValues (before sheet script i)
-
-    abbrev verdict : Verdict
-    verdict = ask variables f mask values
-
-    entries : Entries variables f mask values
-    entries = book-entries sheet (before sheet script i) K (before-entered sheet script i)
-
-    below : last sheet < frames sheet
-    below = omega (arith, K .least)
-
-    -- what was promised for an earlier line still stands in larger tables, and for line i it is new
-    promises : (u' o' : List ℕ) (cu' co' : ℕ) → Grown (S .u) (S .cu) u' cu' → Grown (S .o) (S .co) o' co' → Promised-at sheet script i u' cu' o' co'
-        → (j : ℕ) → j < suc i → Promised-at sheet script j u' cu' o' co'
-    promises u' o' cu' co' g h new j l = by-bool (eqb j i)
-        (λ t. let e : j ≡ i = omega tests in rw e new)
-        (λ t. let p = S .promised j (omega tests) in
-        (λ y. kept-grown _ _ _ g (p .0 y), λ n. kept-grown _ _ _ h (p .1 n)))
-
-    yes-filled : verdict .holds ≡ true → Filled sheet script under over (suc i)
-    yes-filled e =
-        let G = grow (S .u) (S .cu) (last sheet) (freeMask variables f) (verdict .word) in
-        let s = yes-inside f mask values entries e in
-        let valid = valid-put (S .kept .tables .under) (G .put) below s (yes-explains f mask values entries e) in
-        record {
-          u = G .table;
-          cu = G .count';
-          o = S .o;
-          co = S .co;
-          kept = record { tables = record { under = valid; over = S .kept .tables .over }; under = grown-trans (S .kept .under) (G .put .grown); over = S .kept .over };
-          promised = promises (G .table) (S .o) (G .count') (S .co) (G .put .grown) (grown-refl (S .o) (S .co)) (
-            λ y. kept-put (freeMask variables f) (verdict .word) (G .put) (sub-refl (freeMask variables f)) (bits-agree _ _ _ s (λ k h. refl)),
-            λ n. clash (verdict .holds) e n,
-          );
-        }
-
-    no-filled : verdict .holds ≡ false → Filled sheet script under over (suc i)
-    no-filled e =
-        let G = grow (S .o) (S .co) (last sheet) mask values in
-        let valid = valid-put (S .kept .tables .over) (G .put) below (entries .valued) (no-explains f mask values entries e) in
-        record {
-          u = S .u;
-          cu = S .cu;
-          o = G .table;
-          co = G .count';
-          kept = record { tables = record { under = S .kept .tables .under; over = valid }; under = S .kept .under; over = grown-trans (S .kept .over) (G .put .grown) };
-          promised = promises (S .u) (G .table) (S .cu) (G .count') (grown-refl (S .u) (S .cu)) (G .put .grown) (
-            λ y. clash (verdict .holds) y e,
-            λ n. kept-put mask values (G .put) (sub-refl mask) (bits-agree _ _ _ (entries .valued) (λ k h. refl)),
-          );
-        }
-
-  filled : (i : ℕ) → Filled sheet script under over i
-  filled zero = none-filled
-  filled (suc i) = by-bool (verdict i (filled i) .holds) (yes-filled i (filled i)) (no-filled i (filled i))
+  filled : (n : ℕ) → Filled sheet script under over n
+  filled zero = record { exit = asLent under over; history = history-none (asLent under over) }
+  filled (suc n) = subst (Filled sheet script under over) (add-one n) (filled-next n (filled n) (some-next sheet script K n (filled n .exit) (filled-true (filled n))))
 
 -- ---- an output for every input
 
@@ -168,16 +180,16 @@ module _ (sheet script ans under over : List ℕ) where
           under = under;
           over = over;
           ans' = answers (book sheet) script ++ drop (answerLength * lines script) ans;
-          under' = F .u;
-          over' = F .o;
+          under' = F .exit .under;
+          over' = F .exit .over;
           number = number;
           place = place;
-          cu = F .cu;
-          co = F .co;
+          cu = F .exit .cu;
+          co = F .exit .co;
         },
         record {
           answered = record { number-is = refl; place-is = refl; untouched = λ l. absurd (omega arith); written = λ z. refl };
-          recorded = λ z. record { kept = F .kept; promised = λ i a. F .promised i (a .line) };
+          recorded = λ z. F .history;
         },
         record { ans-is = refl; under-is = refl; over-is = refl },
       )

@@ -2,6 +2,7 @@ pub mod Run
 pub mod Call
 pub mod Accept
 pub mod Bounds
+pub mod History
 pub mod Before
 pub mod Exists
 pub mod Same

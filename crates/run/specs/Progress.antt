@@ -4,18 +4,15 @@ use native.Mathlib.Omega.{arith}
 use mathlib.Core.Path.{_≡_, refl, sym, ap, _∙_}
 use mathlib.Core.List.{List, [], _++_}
 use lib.ListN.{length, getD, drop, length-append, length-drop}
-use lib.Dec.{eqb}
-use Rattle.words.specs.Logic.{by-bool, tests}
 use Rattle.sheet.specs.Cause.{Refusal, first-none}
 use Rattle.sheet.specs.Check.{Checks}
-use Rattle.records.specs.Table.{kept-grown, grown-refl, grown-trans}
-use Rattle.solver.specs.Contract.{TablesGrown}
 use Rattle.session.specs.declared.Session.{Session}
 use Rattle.session.specs.Model.{Answer, answerLength, bytesOf, answerBytes, lines, lineAt, line, answerAt, answersTo, answers}
 use Rattle.session.specs.Script.{after-none, after-next, answers-none, answers-next, length-answersTo}
 use Rattle.session.specs.Sound.{standingOf, Checked, Sound, Empty, empty-standing, empty-sound}
-use Rattle.session.specs.Step.{Tells, Step}
-use Rattle.run.specs.Run.{causes, book, before, Asked, Promised-at, Run}
+use Rattle.session.specs.Step.{Tells, Untouched, Step}
+use Rattle.run.specs.Run.{causes, book, before, Held, asLent, Grows, LineRecords, History, Run}
+use Rattle.run.specs.History.{lent-true, history-none, history-next, history-grows}
 use Rattle.run.specs.Accept.{Proper, causes-numbered, number-proper, proper-accepted}
 use Rattle.run.specs.Before.{kept-accepted}
 use Rattle.run.specs.Written.{written, written-next}
@@ -27,13 +24,16 @@ pub record LineRun (s script : List ℕ) (free i : ℕ) (x : Session) (ans u o :
       (answer .number) (answer .v) (answer .word)
   pub put : ans' ≡ written ans (i * 6) (answerBytes answer)
 
+-- the records that the session x counts in the tables u and o
+abbrev pub recordsOf : Session → List ℕ → List ℕ → Held
+recordsOf x u o = record { under = u; cu = x .under; over = o; co = x .over }
+
 -- After the first i lines of a run: session and buffers; ans, under and over are the buffers at the start.
 pub record Progress (s script : List ℕ) (free : ℕ) (ans under over : List ℕ) (i : ℕ) (x : Session) (ans' u o : List ℕ) : Type 0 where
   pub sound : Sound s free x u o
   pub stands : standingOf x ≡ before s script i
   pub told : ans' ≡ answersTo (book s) [] script i ++ drop (answerLength * i) ans
-  pub kept : TablesGrown s under 0 over 0 u (x .under) o (x .over)
-  pub promised : (j : ℕ) → j < i → Asked s script j → Promised-at s script j u (x .under) o (x .over)
+  pub history : History s script i (asLent under over) (recordsOf x u o)
 
 -- ---- at the start
 
@@ -44,8 +44,7 @@ progress-none {s} {script} {x = x} ans under over k e =
       sound = d;
       stands = empty-standing e ∙ sym (after-none (book s) [] script);
       told = rw (answers-none (book s) [] script);
-      kept = record { tables = d .tables; under = rw (e .under) (grown-refl under 0); over = rw (e .over) (grown-refl over 0) };
-      promised = λ j h. absurd (omega arith);
+      history = rw (e .under, e .over) (history-none (asLent under over));
     }
 
 -- ---- one line more
@@ -77,12 +76,20 @@ module _ {s script : List ℕ} {free : ℕ} {ans under over : List ℕ} {i : ℕ
       rw (f, answers-next (book s) [] script i, ← answer-told)
       (t .put ∙ rw (e, g .told) (written-next p bs ans (answerLength * i) (length-answersTo (book s) [] script i)))
 
-  next-promised : (j : ℕ) → j < i + 1 → Asked s script j → Promised-at s script j u' (x' .under) o' (x' .over)
-  next-promised j h a = by-bool (eqb j i)
-      (λ e. let q : j ≡ i = omega tests in
-      rw (q, ← g .stands) (t .step .promised (ap (λ (b : Answer). b .number) answer-told ∙ (rw q at (a .taken))) (rw q at (a .kind))))
-      (λ e. let p = g .promised j (omega tests) a in
-      (λ y. kept-grown _ _ _ (t .step .kept .under) (p .0 y), λ n. kept-grown _ _ _ (t .step .kept .over) (p .1 n)))
+  -- tables and counts that are as they were are the same records
+  same-records : Untouched x u o x' u' o' → recordsOf x' u' o' ≡ recordsOf x u o
+  same-records k = λ j. record { under = k .under j; cu = k .under-count j; over = k .over j; co = k .over-count j }
+
+  number-told : t .answer .number ≡ answerAt (book s) [] script i .number
+  number-told = ap (λ (b : Answer). b .number) answer-told
+
+  line-records : LineRecords s script i (recordsOf x u o) (recordsOf x' u' o')
+  line-records = record {
+    grows = t .step .kept;
+    refused = λ h. same-records (t .step .refused-same (omega (arith, number-told)));
+    quiet = λ h. same-records (t .step .quiet-same h);
+    promised = λ a. rw (← g .stands) (t .step .promised (number-told ∙ a .taken) (a .kind));
+  }
 
   pub progress-next : Progress s script free ans under over (i + 1) x' ans₂ u' o'
   unfolding lineAt
@@ -90,19 +97,19 @@ module _ {s script : List ℕ} {free : ℕ} {ans under over : List ℕ} {i : ℕ
     sound = t .step .sound;
     stands = t .step .stands ∙ rw (g .stands, after-next (book s) [] script i);
     told = next-told;
-    kept = record {
-      tables = t .step .kept .tables;
-      under = grown-trans (g .kept .under) (t .step .kept .under);
-      over = grown-trans (g .kept .over) (t .step .kept .over);
-    };
-    promised = next-promised;
+    history = history-next (g .history) line-records;
   }
 
--- the answer buffer keeps its length
+-- the buffers keep their lengths
 pub progress-length : {s script : List ℕ} {free : ℕ} {ans under over : List ℕ} {i : ℕ} {x : Session} {ans' u o : List ℕ}
     → Progress s script free ans under over i x ans' u o → answerLength * i ≤ length ans → length ans' ≡ length ans
 progress-length {s} {script} {ans = ans} {i = i} g h =
     rw (g .told, length-append, length-answersTo (book s) [] script i, length-drop) (omega arith)
+
+pub progress-grows : {s script : List ℕ} {free : ℕ} {ans under over : List ℕ} {i : ℕ} {x : Session} {ans' u o : List ℕ}
+    → Progress s script free ans under over i x ans' u o → Grows s (asLent under over) (recordsOf x u o)
+progress-grows {s} {under = under} {over = over} {i = i} g =
+    rw (g .history .starts, g .history .ends) at (history-grows (g .history) (lent-true s under over) 0 i (omega arith) (omega arith))
 
 -- ---- the whole run
 
@@ -133,7 +140,7 @@ module _ (s script ans : List ℕ) {number place free : ℕ} (c : Checks (causes
             untouched = λ h. absurd (omega arith);
             written = λ z. g .told;
           };
-          recorded = λ z. record { kept = g .kept; promised = λ i a. g .promised i (a .line) a };
+          recorded = λ z. g .history;
         }
 
   pub run-refused : {under over : List ℕ} → (number ≡ 0 → ⊥) → Run s script ans under over ans under over number place 0 0

@@ -1,7 +1,7 @@
 -- What a run is refused for, and the contract of `run` for all inputs. Assumes nothing.
-use Prim.Native.Nat.{ℕ, _*_, _%_, _<_}
+use Prim.Native.Nat.{ℕ, _+_, _*_, _%_, _<_}
 use mathlib.Core.Path.{_≡_}
-use mathlib.Core.Bool.{not}
+use mathlib.Core.Bool.{false, not}
 use mathlib.Core.List.{List, [], _∷_, _++_}
 use lib.ListN.{length, getD, drop}
 use lib.Dec.{eqb, ltb}
@@ -12,6 +12,7 @@ use Rattle.sheet.specs.Rules.{variables, cause, sizeCauses, frameCauses}
 use Rattle.solver.specs.Contract.{root, TablesGrown, Promised}
 use Rattle.session.specs.declared.Entry.{Entry}
 use Rattle.session.specs.Sound.{sheetMeaning}
+use Rattle.session.specs.Step.{searches}
 use Rattle.session.specs.Model.{Meaning, enteredMask, enteredValues, answerLength, ASK, lines, after, answerAt, answers}
 
 -- ---- refusals
@@ -33,7 +34,7 @@ causes sheet script bytes = sizeCauses sheet ++ (scriptCauses script ++ (roomCau
 abbrev pub refusal : List ℕ → List ℕ → ℕ → Refusal
 refusal sheet script bytes = first (causes sheet script bytes)
 
--- ---- the contract
+-- ---- what a line of the script means
 
 -- what the reference model takes from a sheet: the meaning of its last frame
 abbrev pub book : List ℕ → Meaning
@@ -43,20 +44,60 @@ book sheet = sheetMeaning sheet
 abbrev pub before : List ℕ → List ℕ → ℕ → List Entry
 before sheet script i = after (book sheet) [] script i
 
+-- the kind of line i
+abbrev pub kindAt : List ℕ → ℕ → ℕ
+kindAt script i = getD script (i * 4) 0
+
 -- line i of the script is of the kind k, and is not refused
 pub record Taken (k : ℕ) (sheet script : List ℕ) (i : ℕ) : Type 0 where
   pub line : i < lines script
-  pub kind : getD script (i * 4) 0 ≡ k
+  pub kind : kindAt script i ≡ k
   pub taken : answerAt (book sheet) [] script i .number ≡ 0
 
 abbrev pub Asked : List ℕ → List ℕ → ℕ → Type 0
 Asked sheet script i = Taken ASK sheet script i
 
+-- ---- the records in the course of a run
+
+-- both tables, and how many records of each count
+pub record Held : Type 0 where
+  pub under : List ℕ
+  pub cu : ℕ
+  pub over : List ℕ
+  pub co : ℕ
+
+-- as they are lent: nothing that a table holds counts
+abbrev pub asLent : List ℕ → List ℕ → Held
+asLent under over = record { under = under; cu = 0; over = over; co = 0 }
+
+-- every counted record is true, those that were counted stay, and the numbers behind the counts are as found
+abbrev pub Grows : List ℕ → Held → Held → Type 0
+Grows sheet h h' = TablesGrown sheet (h .under) (h .cu) (h .over) (h .co) (h' .under) (h' .cu) (h' .over) (h' .co)
+
 -- document 01's promise for line i: the table concerned is full, or a counted record is the one that the verdict calls for
-abbrev pub Promised-at : List ℕ → List ℕ → ℕ → List ℕ → ℕ → List ℕ → ℕ → Type 0
-Promised-at sheet script i under cu over co =
+abbrev pub Promised-at : List ℕ → List ℕ → ℕ → Held → Type 0
+Promised-at sheet script i h =
     let es = before sheet script i in
-    Promised sheet (enteredMask es) (enteredValues es) (ask variables (root sheet) (enteredMask es) (enteredValues es)) under cu over co
+    Promised sheet (enteredMask es) (enteredValues es) (ask variables (root sheet) (enteredMask es) (enteredValues es)) (h .under) (h .cu) (h .over) (h .co)
+
+-- what line i makes of the records h before it: h' after it
+pub record LineRecords (sheet script : List ℕ) (i : ℕ) (h h' : Held) : Type 0 where
+  pub grows : Grows sheet h h'
+  -- a refused line changes nothing, and neither do ENTER, TAKE BACK and READ
+  pub refused : 0 < answerAt (book sheet) [] script i .number → h' ≡ h
+  pub quiet : searches (kindAt script i) ≡ false → h' ≡ h
+  -- an ASK that is answered leaves its record, then and there
+  pub promised : Asked sheet script i → Promised-at sheet script i h'
+
+-- How the records go through the first n lines, from h to h'. Which records an ASK or a WHY keeps, and how many, is the program's choice.
+pub record History (sheet script : List ℕ) (n : ℕ) (h h' : Held) : Type 0 where
+  -- before line i, which is after line i - 1
+  pub records : ℕ → Held
+  pub starts : records 0 ≡ h
+  pub each : (i : ℕ) → i < n → LineRecords sheet script i (records i) (records (i + 1))
+  pub ends : records n ≡ h'
+
+-- ---- the contract
 
 -- What run tells and leaves in the buffers, as far as it has no choice. At entry and, primed, at exit; cu and co are the two record counts.
 pub record Answers (sheet script ans under over ans' under' over' : List ℕ) (number place cu co : ℕ) : Type 0 where
@@ -67,12 +108,10 @@ pub record Answers (sheet script ans under over ans' under' over' : List ℕ) (n
   -- accepted: the reference model's bytes, then what was behind them
   pub written : number ≡ 0 → ans' ≡ answers (book sheet) script ++ drop (answerLength * lines script) ans
 
--- What the records of an accepted run have in common. Which records are kept, and how many, is the program's choice.
-pub record Records (sheet script under over under' over' : List ℕ) (cu co : ℕ) : Type 0 where
-  -- every counted record is true, and the numbers behind the counts are as at entry
-  pub kept : TablesGrown sheet under 0 over 0 under' cu over' co
-  -- for each ASK that was answered, the first to the last
-  pub promised : (i : ℕ) → Asked sheet script i → Promised-at sheet script i under' cu over' co
+-- what the records of an accepted run have in common: a history from the tables as lent to the tables at exit
+abbrev pub Records : List ℕ → List ℕ → List ℕ → List ℕ → List ℕ → List ℕ → ℕ → ℕ → Type 0
+Records sheet script under over under' over' cu co =
+    History sheet script (lines script) (asLent under over) (record { under = under'; cu = cu; over = over'; co = co })
 
 pub record Run (sheet script ans under over ans' under' over' : List ℕ) (number place cu co : ℕ) : Type 0 where
   pub answered : Answers sheet script ans under over ans' under' over' number place cu co

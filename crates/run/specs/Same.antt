@@ -2,7 +2,7 @@
 use Prim.Native.Nat.{ℕ, zero, suc, _*_, _≤_, _<_}
 use native.Mathlib.Omega.{arith}
 use mathlib.Core.Path.{_≡_, refl, sym, ap, _∙_}
-use mathlib.Core.Logic.{⊎-elim}
+use mathlib.Core.Logic.{_⊎_, inl, inr, ⊎-elim}
 use mathlib.Core.List.{List, [], _++_, append-assoc}
 use lib.ListN.{length, getD, take, drop, replicate, length-append, length-replicate}
 use lib.Seq.{take-at, drop-at}
@@ -91,6 +91,11 @@ abbrev pub SomeAlike : List ℕ → List ℕ → List ℕ → Type 0
 SomeAlike sheet a b =
     (f : List ℕ) → Further f → (A : Call) × (B : Call) × Ample sheet (a ++ f) A × Ample sheet (b ++ f) B × (furtherAnswers a f A ≡ furtherAnswers b f B)
 
+-- in all such calls the READ of place i is answered one way after a and another way after b
+abbrev pub ReadApart : List ℕ → List ℕ → List ℕ → ℕ → Type 0
+ReadApart sheet a b i =
+    (A B : Call) → Ample sheet (a ++ readScript i) A → Ample sheet (b ++ readScript i) B → furtherAnswers a (readScript i) A ≡ furtherAnswers b (readScript i) B → ⊥
+
 module _ (sheet a b : List ℕ) (K : Keeps sheet) (A : Earlier a) (B : Earlier b) where
   abbrev m : Meaning
   m = book sheet
@@ -101,15 +106,24 @@ module _ (sheet a b : List ℕ) (K : Keeps sheet) (A : Earlier a) (B : Earlier b
       ∙ ap (λ (es : List Entry). answersTo m es f (lines f)) s
       ∙ sym (further-model sheet b f p K B F P)
 
+  -- where the entries first differ, a READ of that place tells the two apart
+  pub difference-read : (i : ℕ) → FirstDifference (standing m a) (standing m b) i → (i < 256) × ReadApart sheet a b i
+  difference-read i D =
+      let h : i < 256 = omega (arith, D .reach, entries-at-most variables (root sheet) (standing-keeps m a)) in
+      let F = read-further i h in (
+        h,
+        λ o p O P e. read-shows (standing-keeps m a) (standing-keeps m b) i D
+            (sym (further-model sheet a (readScript i) o K A F O) ∙ e ∙ further-model sheet b (readScript i) p K B F P),
+      )
+
+  pub same-or-read : (standing m a ≡ standing m b) ⊎ ((i : ℕ) × (i < 256) × ReadApart sheet a b i)
+  same-or-read = ⊎-elim inl (λ r. let d = difference-read (r .0) (r .1) in inr (r .0, d .0, d .1)) (first-difference (standing m a) (standing m b))
+
   pub alike-same : SomeAlike sheet a b → standing m a ≡ standing m b
-  alike-same h = ⊎-elim (λ s. s) (λ r. absurd (shown (r .0) (r .1))) (first-difference (standing m a) (standing m b))
+  alike-same h = ⊎-elim (λ s. s) (λ r. absurd (told (r .0) (r .1) (r .2))) same-or-read
     where
-      shown : (i : ℕ) → FirstDifference (standing m a) (standing m b) i → ⊥
-      shown i D =
-          let F = read-further i (omega (arith, D .reach, entries-at-most variables (root sheet) (standing-keeps m a))) in
-          let c = h (readScript i) F in
-          read-shows (standing-keeps m a) (standing-keeps m b) i D
-          (sym (further-model sheet a (readScript i) (c .0) K A F (c .2)) ∙ c .4 ∙ further-model sheet b (readScript i) (c .1) K B F (c .3))
+      told : (i : ℕ) → i < 256 → ReadApart sheet a b i → ⊥
+      told i l apart = let c = h (readScript i) (read-further i l) in apart (c .0) (c .1) (c .2) (c .3) (c .4)
 
   pub alike-some : Alike sheet a b → SomeAlike sheet a b
   alike-some h f F =

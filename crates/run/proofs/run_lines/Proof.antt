@@ -4,7 +4,7 @@ use Prim.Native.Nat.{_-_, _≤_}
 use native.Mathlib.Omega.{arith}
 use mathlib.Core.Path.{_≡_}
 use Rattle.session.specs.Model.{lines}
-use Rattle.run.specs.Progress.{Progress, progress-none, progress-next, progress-length}
+use Rattle.run.specs.Progress.{Progress, progress-none, progress-next, progress-length, progress-grows}
 use Rattle.run.proofs.run_lines.Statement.{statement}
 use Rattle.run.proofs.run_lines.Tie as tie
 
@@ -40,10 +40,10 @@ same-length : tie.Need-same-length Inv-loop μ-loop
 same-length c = progress-length (c .before .loop .inv .1) (omega (arith, c .before .before .before .before .before .before .before .before .pre .1))
 
 same-length-2 : tie.Need-same-length-2 Inv-loop μ-loop
-same-length-2 c = c .before .loop .inv .1 .kept .under .same
+same-length-2 c = progress-grows (c .before .loop .inv .1) .under .same
 
 same-length-3 : tie.Need-same-length-3 Inv-loop μ-loop
-same-length-3 c = c .before .loop .inv .1 .kept .over .same
+same-length-3 c = progress-grows (c .before .loop .inv .1) .over .same
 
 returns : tie.Need-returns Inv-loop μ-loop
 returns c =

@@ -1,0 +1,71 @@
+-- The records in the course of a run: no line, one line more, and what holds from one line to a later one. Assumes nothing.
+use Prim.Native.Nat.{ℕ, zero, suc, _+_, _≤_, _<_}
+use native.Mathlib.Omega.{arith}
+use native.Mathlib.Numerals.{add-one}
+use mathlib.Core.Path.{_≡_, refl, sym, subst, _∙_}
+use mathlib.Core.Bool.{true, false, cond}
+use mathlib.Core.List.{List}
+use lib.Dec.{eqb, leb}
+use borrow.Author.Tests.{le-leb, lt-leb}
+use Rattle.words.specs.Logic.{by-bool, tests}
+use Rattle.sheet.specs.Frames.{frames, formula}
+use Rattle.records.specs.Table.{valid-empty, grown-refl, grown-trans, kept-grown}
+use Rattle.solver.specs.Contract.{Tables}
+use Rattle.run.specs.Run.{Held, asLent, Grows, Asked, Promised-at, LineRecords, History}
+
+-- every counted record is true
+abbrev pub True : List ℕ → Held → Type 0
+True sheet h = Tables sheet (h .under) (h .cu) (h .over) (h .co)
+
+-- ---- tables that grow
+
+pub lent-true : (sheet under over : List ℕ) → True sheet (asLent under over)
+lent-true sheet under over = record { under = valid-empty (formula sheet) (frames sheet) true under; over = valid-empty (formula sheet) (frames sheet) false over }
+
+pub grows-none : {sheet : List ℕ} (h : Held) → True sheet h → Grows sheet h h
+grows-none h t = record { tables = t; under = grown-refl (h .under) (h .cu); over = grown-refl (h .over) (h .co) }
+
+pub grows-trans : {sheet : List ℕ} {h h₁ h₂ : Held} → Grows sheet h h₁ → Grows sheet h₁ h₂ → Grows sheet h h₂
+grows-trans g k = record { tables = k .tables; under = grown-trans (g .under) (k .under); over = grown-trans (g .over) (k .over) }
+
+-- what was promised still stands in larger tables
+pub promised-grows : {sheet : List ℕ} (script : List ℕ) (i : ℕ) {h h' : Held} → Grows sheet h h' → Promised-at sheet script i h → Promised-at sheet script i h'
+promised-grows script i g p = (λ y. kept-grown _ _ _ (g .under) (p .0 y), λ n. kept-grown _ _ _ (g .over) (p .1 n))
+
+-- ---- no line, and one line more
+
+pub history-none : {sheet script : List ℕ} (h : Held) → History sheet script 0 h h
+history-none h = record { records = λ i. h; starts = refl; each = λ i l. absurd (omega arith); ends = refl }
+
+module _ {sheet script : List ℕ} {n : ℕ} {h h₁ h₂ : Held} (H : History sheet script n h h₁) (K : LineRecords sheet script n h₁ h₂) where
+  longer : ℕ → Held
+  longer i = cond (leb i n) (H .records i) h₂
+
+  longer-old : (i : ℕ) → i ≤ n → longer i ≡ H .records i
+  unfolding longer
+  longer-old i l = rw (le-leb i n l)
+
+  longer-new : longer (n + 1) ≡ h₂
+  unfolding longer
+  longer-new = rw (lt-leb (n + 1) n (omega arith))
+
+  longer-each : (i : ℕ) → i < n + 1 → LineRecords sheet script i (longer i) (longer (i + 1))
+  longer-each i l = by-bool (eqb i n)
+      (λ t. let e : i ≡ n = omega tests in rw (e, longer-old n (omega arith), H .ends, longer-new) K)
+      (λ t. rw (longer-old i (omega tests), longer-old (i + 1) (omega tests)) (H .each i (omega tests)))
+
+  pub history-next : History sheet script (n + 1) h h₂
+  history-next = record { records = longer; starts = longer-old 0 (omega arith) ∙ H .starts; each = longer-each; ends = longer-new }
+
+-- ---- from one line to a later one
+
+module _ {sheet script : List ℕ} {n : ℕ} {h h' : Held} (H : History sheet script n h h') (t : True sheet h) where
+  pub history-true : (i : ℕ) → i ≤ n → True sheet (H .records i)
+  history-true zero l = rw (H .starts) t
+  history-true (suc i) l = rw (add-one i) at (H .each i (omega arith) .grows .tables)
+
+  pub history-grows : (i j : ℕ) → i ≤ j → j ≤ n → Grows sheet (H .records i) (H .records j)
+  history-grows i zero l m = let e : i ≡ 0 = omega arith in rw e (grows-none (H .records 0) (history-true 0 (omega arith)))
+  history-grows i (suc j) l m = by-bool (eqb i (suc j))
+      (λ t. let e : i ≡ suc j = omega tests in rw e (grows-none (H .records (suc j)) (history-true (suc j) m)))
+      (λ t. grows-trans (history-grows i j (omega tests) (omega arith)) (rw (add-one j) at (H .each j (omega arith) .grows)))
