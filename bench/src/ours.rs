@@ -1,17 +1,13 @@
 //! One question to the archive: `ours FILE ask|why` prints the verdict, the word and the CPU seconds of one call, which checks
 //! the sheet and answers the script's one line. A short call is repeated until it can be measured.
 
+#[path = "../../include/hammerloom.rs"]
+mod hammerloom;
+
+use hammerloom::hammerloom_run;
 use std::process::ExitCode;
 
 extern "C" {
-    fn hammerloom_run(
-        sheet: *const u8,
-        sheet_len: usize,
-        script: *const u8,
-        script_len: usize,
-        answers: *mut u8,
-        answers_len: usize,
-    ) -> u32;
     fn clock_gettime(clock: i32, time: *mut Time) -> i32;
 }
 

@@ -1,17 +1,10 @@
 //! Calls of the archive's one entry, with canary bytes around each lent buffer.
 
-use std::ptr;
+#[path = "../../include/hammerloom.rs"]
+mod hammerloom;
 
-extern "C" {
-    fn hammerloom_run(
-        sheet: *const u8,
-        sheet_len: usize,
-        script: *const u8,
-        script_len: usize,
-        answers: *mut u8,
-        answers_len: usize,
-    ) -> u32;
-}
+use hammerloom::hammerloom_run;
+use std::ptr;
 
 pub struct Outcome {
     pub result: u32,
