@@ -222,6 +222,7 @@ fn pass(frame: Frame, words: &mut [u32; 200], bound: u32) -> u32
 }
 
 // A pass over the frames: whether one is left to judge, the variables bound so far, and the refusal's number and place, 0 and 0 for none.
+// Where it stands is the reader's to know.
 struct Scan {
     more: bool,
     bound: u32,
@@ -229,7 +230,7 @@ struct Scan {
     place: u16,
 }
 
-// The pass goes on by the frame that the reader gave.
+// One turn of the pass, over the frame that the reader gave: it is refused, or its words are kept.
 fn visit(sheet: &[u8], words: &mut [u32; 200], scan: Scan, frame: Frame) -> Scan
     requires { ⌜ Passed (now sheet) (now words) (scan .bound) (frame .number) × (frame .number < frames (now sheet)) × (frame .kind ≡ kind (now sheet) (frame .number)) ⌝ }
     ensures { λ r. ⌜ Scanning (now (sheet .entry)) (now (words .exit)) (frame .number + 1) (r .more) (r .bound) (r .number) (r .place) ⌝ }
@@ -253,7 +254,7 @@ fn visit(sheet: &[u8], words: &mut [u32; 200], scan: Scan, frame: Frame) -> Scan
     }
 }
 
-// One reader is made at frame 0 and stepped along the sheet.
+// The pass from frame 0 on: one reader is stepped along the sheet.
 fn scan_frames(sheet: &[u8], words: &mut [u32; 200], mut scan: Scan) -> Scan
     requires { ⌜ Scanning (now sheet) (now words) 0 (scan .more) (scan .bound) (scan .number) (scan .place) ⌝ }
     ensures { λ r. ⌜ Scanned (now (sheet .entry)) (now (words .exit)) (r .bound) (r .number) (r .place) ⌝ }
