@@ -1,5 +1,5 @@
 -- One pass over the frames: what holds before frame k, how it comes to hold before the next, and what the check answers. Assumes nothing.
-use Prim.Native.Nat.{ℕ, zero, suc, _+_, _-_, _≤_, _<_}
+use Prim.Native.Nat.{ℕ, zero, suc, _+_, _≤_, _<_}
 use native.Mathlib.Numerals.{add-one}
 use native.Mathlib.Omega.{arith}
 use mathlib.Core.Path.{_≡_, refl, sym, _∙_, ap, subst, fun-ext}
@@ -7,7 +7,7 @@ use mathlib.Core.Bool.{Bool, true, false, cond, _||_, or-false}
 use mathlib.Core.List.{List, [], _∷_}
 use lib.ListN.{length, getD, set, length-set}
 use lib.Seq.{getD-set-same, getD-set-other}
-use lib.Dec.{eqb}
+use lib.Dec.{eqb, ltb}
 use lib.Bits.{bitOr}
 use Rattle.words.specs.Logic.{by-bool, clash, or-left, or-right, tests}
 use Rattle.words.specs.Word.{bit, bit-or, bit-none}
@@ -72,7 +72,7 @@ module _ (s words : List ℕ) (bound k : ℕ) (P : Passed s words bound k) (h : 
       bounds = λ v. rw (bit-or, P .bounds v, bit-boundMask);
     })
 
--- the same of a kind, a word and a range that the code has read
+-- the same of a kind that the code has read, and of the words that it has made
 module _ (s words : List ℕ) (bound k : ℕ) (P : Passed s words bound k) (h : k < frames s) (g : CleanAt s k) (d : Kind) (e : d ≡ kind s k) where
   pub kind-fit : Fit 32 200 d
   kind-fit = subst (Fit 32 200) (sym e) (fit-later 32 k 200 (kind s k) (omega (arith, P .most)) (fit-next s words bound k P h g))
@@ -80,8 +80,8 @@ module _ (s words : List ℕ) (bound k : ℕ) (P : Passed s words bound k) (h : 
   pub kind-range : badVariables d ≡ false
   kind-range = ap badVariables (e ∙ kind-at s k h) ∙ g .variable
 
-  pub pass-read : (w r : ℕ) → w ≡ freeWord words d → r ≡ boundMask d → Passed s (set words k w) (bitOr bound r) (k + 1)
-  pass-read w r p q = rw (p, q, e) (pass-next s words bound k P h g)
+  pub pass-read : (l : List ℕ) (r : ℕ) → l ≡ set words k (freeWord words d) → r ≡ bitOr bound (boundMask d) → Passed s l r (k + 1)
+  pass-read l r p q = rw (p, q, e) (pass-next s words bound k P h g)
 
 -- ---- the answers
 
@@ -181,13 +181,36 @@ module _ (s words : List ℕ) (bound : ℕ) (P : Passed s words bound (frames s)
         free-is = r .free-is ∙ rw (some-root, t) word-mask;
       })
 
--- the same where the code has counted k of n frames
-pub root-read : (s words : List ℕ) (bound k n : ℕ) → Passed s words bound k → n ≡ frames s → 0 < n → n ≤ k → (m p f : ℕ)
-    → RootChecks (getD words (n - 1) 0) bound (n - 1) m p f → Checks (frameCauses s) s m p f
-root-read s words bound k n P e z l m p f r =
-    let q : k ≡ frames s = omega (arith, P .within) in
-    root-checks s words bound (subst (Passed s words bound) q P) (omega arith) m p f
-    (subst (λ (j : ℕ). RootChecks (getD words (j - 1) 0) bound (j - 1) m p f) e r)
+-- ---- the pass, frame by frame
+
+-- where it ends: a frame is refused, or all are passed
+pub record Scanned (s words : List ℕ) (bound number place : ℕ) : Type 0 where
+  pub refused : (number ≡ 0 → ⊥) → Checks (frameCauses s) s number place 0
+  pub passed : number ≡ 0 → Passed s words bound (frames s)
+
+-- a reader stands at frame k: that frame is judged next, or the pass has ended
+pub record Scanning (s words : List ℕ) (k : ℕ) (more : Bool) (bound number place : ℕ) : Type 0 where
+  pub going : more ≡ true → Passed s words bound k × (k < frames s)
+  pub ended : more ≡ false → Scanned s words bound number place
+
+pub scan-starts : (s words : List ℕ) → frames s ≤ 200 → 0 < frames s → length words ≡ 200 → Scanning s words 0 true 0 0 0
+scan-starts s words m h l = record { going = λ _. (passed-none s words m l, h); ended = λ t. clash true refl t }
+
+pub scan-refuses : (s words : List ℕ) (bound k : ℕ) → Passed s words bound k → k < frames s
+    → (n : ℕ) → n ≡ first (causesOf s k (bit bound)) .number → (n ≡ 0 → ⊥) → Scanning s words (k + 1) false bound n k
+scan-refuses s words bound k P h n e z = record {
+  going = λ t. clash false t refl;
+  ended = λ _. record { refused = λ _. fault-checks s words bound k P h n e z; passed = λ w. absurd (z w) };
+}
+
+pub scan-passes : (s words : List ℕ) (bound k : ℕ) → Passed s words bound k → Scanning s words k (ltb k (frames s)) bound 0 0
+scan-passes s words bound k P = record {
+  going = λ t. (P, omega (tests, t));
+  ended = λ t. record {
+    refused = λ z. absurd (z refl);
+    passed = λ _. let e : k ≡ frames s = omega (tests, t, P .within) in subst (Passed s words bound) e P;
+  };
+}
 
 -- ---- the size first, then the frames
 

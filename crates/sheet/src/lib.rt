@@ -64,7 +64,7 @@ pub fn decode(bytes: &[u8], number: usize) -> Frame
     }
 }
 
-// The same, taken by a reader: whoever reads a frame of a sheet calls this.
+// The same, taken by a reader: for whoever wants a frame by its number.
 pub fn frame_at(bytes: &[u8], number: usize) -> Frame
     ensures { λ r. ⌜ (r .number ≡ number) × (r .kind ≡ kind (now (bytes .entry)) number) ⌝ }
 {

@@ -2,18 +2,18 @@
 ghost use mathlib.Core.Path.{_≡_};
 ghost use mathlib.Core.Bool.{true, false};
 ghost use Prim.Native.Nat.{_+_, _*_, _<_};
-ghost use lib.ListN.{getD};
+ghost use lib.ListN.{getD, set};
+ghost use lib.Bits.{bitOr};
 ghost use Rattle.words.specs.Word.{bit};
 ghost use Rattle.sheet.specs.Cause.{first, someHolds};
-ghost use Rattle.sheet.specs.Frames.{frames, Fit};
+ghost use Rattle.sheet.specs.Frames.{frames, kindOf, kind, Fit};
 ghost use Rattle.sheet.specs.Rules as Rules;
 ghost use Rattle.sheet.specs.Rules.{lengthCauses, sizeCauses, byteCauses, causesOf, frameCauses, sheetCauses, someLate, names};
-ghost use Rattle.sheet.specs.RuleLaws.{CleanAt};
 ghost use Rattle.sheet.specs.Check.{boundMask, freeWord, variablesFault, Checks};
-ghost use Rattle.sheet.specs.Pass.{Passed, RootChecks};
+ghost use Rattle.sheet.specs.Pass.{Passed, RootChecks, Scanning, Scanned};
+use crate::Frame;
 use crate::Kind;
-use crate::frame_at;
-use crate::kind_of;
+use crate::reader;
 use crate::refusal;
 use crate::wide;
 use words::w32;
@@ -146,14 +146,14 @@ fn variables_fault(kind: Kind, bound: u32) -> u8
     0
 }
 
-// The first of the causes 6 to 10 by the frame's bytes, or 0.
-fn frame_fault(code: u8, a: u8, b: u8, c: u8, number: u16, bound: u32) -> u8
+// The first of the causes 6 to 10 at a frame of that number and kind, or 0; 6 and 7 go by its bytes, which the kind loses.
+fn frame_fault(code: u8, a: u8, b: u8, c: u8, kind: Kind, number: u16, bound: u32) -> u8
+    requires { ⌜ kind ≡ kindOf code a b c ⌝ }
     ensures { λ r. ⌜ r ≡ first (byteCauses code a b c number (bit bound)) .number ⌝ }
 {
     if code > 6 {
         return refusal::KIND_UNKNOWN;
     }
-    let kind = kind_of(code, a, b, c);
     let spare = spare_set(used(kind), a, b, c);
     let late = some_late(kind, number);
     if spare {
@@ -165,18 +165,20 @@ fn frame_fault(code: u8, a: u8, b: u8, c: u8, number: u16, bound: u32) -> u8
     variables_fault(kind, bound)
 }
 
-// The same for the frame of that number.
-fn fault_at(sheet: &[u8], number: usize, bound: u32) -> u8
-    requires { ⌜ (number < frames (now sheet)) × (number < 200) ⌝ }
-    ensures { λ r. ⌜ r ≡ first (causesOf (now (sheet .entry)) number (bit bound)) .number ⌝ }
+// The same for a frame of the sheet.
+fn fault_of(sheet: &[u8], frame: Frame, bound: u32) -> u8
+    requires { ⌜ (frame .number < frames (now sheet)) × (frame .number < 200) × (frame .kind ≡ kind (now sheet) (frame .number)) ⌝ }
+    ensures { λ r. ⌜ r ≡ first (causesOf (now (sheet .entry)) (frame .number) (bit bound)) .number ⌝ }
 {
-    let at = number * 4;
-    let place = number as u16;
+    let at = frame.number * 4;
+    let place = frame.number as u16;
+    let kind = frame.kind;
     frame_fault(
         sheet[at],
         sheet[at + 1],
         sheet[at + 2],
         sheet[at + 3],
+        kind,
         place,
         bound,
     )
@@ -207,16 +209,62 @@ fn free_word(kind: Kind, free: &[u32; 200]) -> u32
     }
 }
 
-// Frame k, at which no cause holds: its free variables go into the table, and what is bound so far is given back.
-fn pass(sheet: &[u8], k: usize, words: &mut [u32; 200], bound: u32) -> u32
-    requires { ⌜ Passed (now sheet) (now words) bound k × ((k < frames (now sheet)) × CleanAt (now sheet) k) ⌝ }
-    ensures { λ r. ⌜ Passed (now (sheet .entry)) (now (words .exit)) r (k + 1) ⌝ }
+// A frame at which no cause holds: its free variables go into the table, and what is bound so far is given back.
+fn pass(frame: Frame, words: &mut [u32; 200], bound: u32) -> u32
+    requires { ⌜ (frame .number < 200) × Fit 32 200 (frame .kind) × (Rules.badVariables (frame .kind) ≡ false) ⌝ }
+    ensures { λ r. ⌜ (now (words .exit) ≡ set (now (words .entry)) (frame .number) (freeWord (now (words .entry)) (frame .kind))) × (r ≡ bitOr bound (boundMask (frame .kind))) ⌝ }
 {
-    let frame = frame_at(sheet, k);
+    let k = frame.number;
     let kind = frame.kind;
     let word = free_word(kind, words);
     words[k] = word;
     bound | bound_word(kind)
+}
+
+// A pass over the frames: whether one is left to judge, the variables bound so far, and the refusal's number and place, 0 and 0 for none.
+// Where it stands is the reader's to know.
+struct Scan {
+    more: bool,
+    bound: u32,
+    number: u8,
+    place: u16,
+}
+
+// One turn of the pass, over the frame that the reader gave: it is refused, or its words are kept.
+fn visit(sheet: &[u8], words: &mut [u32; 200], scan: Scan, frame: Frame) -> Scan
+    requires { ⌜ Passed (now sheet) (now words) (scan .bound) (frame .number) × (frame .number < frames (now sheet)) × (frame .kind ≡ kind (now sheet) (frame .number)) ⌝ }
+    ensures { λ r. ⌜ Scanning (now (sheet .entry)) (now (words .exit)) (frame .number + 1) (r .more) (r .bound) (r .number) (r .place) ⌝ }
+{
+    let number = fault_of(sheet, frame, scan.bound);
+    if number != 0 {
+        return Scan {
+            more: false,
+            bound: scan.bound,
+            number,
+            place: frame.number as u16,
+        };
+    }
+    let bound = pass(frame, words, scan.bound);
+    let next = frame.number + 1;
+    Scan {
+        more: next < sheet.len() / 4,
+        bound,
+        number: 0,
+        place: 0,
+    }
+}
+
+// The pass from frame 0 on: one reader is stepped along the sheet.
+fn scan_frames(sheet: &[u8], words: &mut [u32; 200], mut scan: Scan) -> Scan
+    requires { ⌜ Scanning (now sheet) (now words) 0 (scan .more) (scan .bound) (scan .number) (scan .place) ⌝ }
+    ensures { λ r. ⌜ Scanned (now (sheet .entry)) (now (words .exit)) (r .bound) (r .number) (r .place) ⌝ }
+{
+    let mut reader = reader::new(sheet, 0);
+    while scan.more {
+        let frame = reader::next(&mut reader);
+        scan = visit(sheet, words, scan, frame);
+    }
+    scan
 }
 
 // The answer of a refusal.
@@ -249,20 +297,19 @@ pub fn check_frames(sheet: &[u8]) -> Checked
     requires { ⌜ someHolds (sizeCauses (now sheet)) ≡ false ⌝ }
     ensures { λ r. ⌜ Checks (frameCauses (now (sheet .entry))) (now (sheet .entry)) (r .number) (r .place) (r .free) ⌝ }
 {
-    let n = sheet.len() / 4;
     let mut words = [0u32; 200];
-    let mut bound: u32 = 0;
-    let mut k: usize = 0;
-    while k < n {
-        let number = fault_at(sheet, k, bound);
-        if number != 0 {
-            return refused(number, k as u16);
-        }
-        bound = pass(sheet, k, &mut words, bound);
-        k += 1;
+    let from = Scan {
+        more: true,
+        bound: 0,
+        number: 0,
+        place: 0,
+    };
+    let scan = scan_frames(sheet, &mut words, from);
+    if scan.number != 0 {
+        return refused(scan.number, scan.place);
     }
-    let last = n - 1;
-    root_answer(words[last], bound, last as u16)
+    let last = sheet.len() / 4 - 1;
+    root_answer(words[last], scan.bound, last as u16)
 }
 
 // The check of any bytes as a sheet.

@@ -1,91 +1,59 @@
--- `sheet::rules::check_frames` meets its contract. The invariant: no cause holds at a frame that was passed, and the words are
--- right. The measure is the frames that are left.
-use Prim.Native.Nat.{ℕ, _-_, _<_}
-use mathlib.Core.Path.{_≡_, refl, sym, _∙_}
+-- `sheet::rules::check_frames` meets its contract: the pass starts at frame 0, and where it ends is the answer.
+use Prim.Native.Nat.{ℕ}
 use native.Mathlib.Omega.{arith}
 use denote.Ref.{now}
 use lib.ListN.{length-replicate}
-use Rattle.sheet.specs.Frames.{frames}
 use Rattle.sheet.specs.Accepted.{none-sized}
 use Rattle.sheet.specs.Check.{same-checks}
-use Rattle.sheet.specs.Pass.{Passed, passed-none, fault-clean, fault-checks, root-read}
+use Rattle.sheet.specs.Pass.{scan-starts, root-checks}
+use borrow.Author.Needs.{needs}
 use Rattle.sheet.proofs.rules.check_frames.Statement.{statement}
 use Rattle.sheet.proofs.rules.check_frames.Tie as tie
 
-abbrev Inv-loop : tie.InvT-loop
-Inv-loop sheet n words₀ bound₀ k₀ words bound k = (n ≡ frames sheet) × ((0 < n) × Passed sheet words bound k)
+scan-frames-requires : tie.Need-scan-frames-requires
+scan-frames-requires c κs =
+    let z = none-sized (now (c .before .before .args .sheet)) (c .before .before .pre) in
+    scan-starts _ _ (z .most) (z .least) (length-replicate {A = ℕ} 200 0)
 
-abbrev μ-loop : tie.MeasureT-loop
-μ-loop sheet n words₀ bound₀ k₀ words bound k = n - k
+refused-requires : tie.Need-refused-requires
+refused-requires c κs = search needs
 
-loop-holds : tie.Need-loop-holds Inv-loop μ-loop
-loop-holds c =
-    let z = none-sized (now (c .before .args .sheet)) (c .before .pre) in
-    (refl, (z .least, passed-none _ _ (z .most) (length-replicate {A = ℕ} 200 0)))
+returns : tie.Need-returns
+returns c = same-checks _ _ _ _ _ _ _ _ (c .refused .ensures) (c .before .before .before .scan-frames .ensures .refused (c .before .if1 .taken))
 
-fault-at-requires : tie.Need-fault-at-requires Inv-loop μ-loop
-fault-at-requires c κs = (omega arith, omega (arith, c .before .loop .inv .1 .1 .most))
+sub-last : tie.Need-sub-last
+sub-last c =
+    let a = c .before .before .before .before .before in
+    omega (arith, none-sized (now (a .args .sheet)) (a .pre) .least)
 
-cast-refused : tie.Need-cast-refused Inv-loop μ-loop
-cast-refused c = omega (arith, c .before .before .before .loop .inv .1 .1 .most)
+mul-root-answer : tie.Need-mul-root-answer
+mul-root-answer c = search needs
 
-refused-requires : tie.Need-refused-requires Inv-loop μ-loop
-refused-requires c κs = tt
+array-read-root-answer : tie.Need-array-read-root-answer
+array-read-root-answer c =
+    let a = c .before .before .before .before .before in
+    let P = c .before .before .scan-frames .ensures .passed (c .if1 .left) in
+    omega (arith, P .most, P .room, none-sized (now (a .args .sheet)) (a .pre) .least)
 
-returns : tie.Need-returns Inv-loop μ-loop
-returns c =
-    same-checks _ _ _ _ _ _ _ _ (c .refused .ensures)
-    (fault-checks _ _ _ _ (c .before .before .before .before .loop .inv .1 .1) (omega arith) _ (c .before .before .fault-at .ensures) (c .before .if1 .taken))
+cast-root-answer : tie.Need-cast-root-answer
+cast-root-answer c = omega (arith, c .before .before .scan-frames .ensures .passed (c .if1 .left) .most)
 
-pass-requires : tie.Need-pass-requires Inv-loop μ-loop
-pass-requires c κs =
-    let P = c .before .before .before .before .loop .inv .1 .1 in
-    (P, (omega arith, fault-clean _ _ _ _ P (omega arith) (sym (c .before .before .fault-at .ensures) ∙ c .before .if1 .left)))
+root-answer-requires : tie.Need-root-answer-requires
+root-answer-requires c κs = search needs
 
-add-k : tie.Need-add-k Inv-loop μ-loop
-add-k c = omega (arith, c .before .before .before .before .before .loop .inv .1 .1 .most)
-
-loop-less : tie.Need-loop-less Inv-loop μ-loop
-loop-less c = omega arith
-
-loop-again : tie.Need-loop-again Inv-loop μ-loop
-loop-again c = let I = c .before .before .before .before .before .loop .inv in (I .0, (I .1 .0, c .pass .ensures))
-
-sub-last : tie.Need-sub-last Inv-loop μ-loop
-sub-last c = omega arith
-
-mul-root-answer : tie.Need-mul-root-answer Inv-loop μ-loop
-mul-root-answer c = omega (arith, c .before .loop .inv .1 .1 .most)
-
-array-read-root-answer : tie.Need-array-read-root-answer Inv-loop μ-loop
-array-read-root-answer c = omega (arith, c .before .loop .inv .1 .1 .most, c .before .loop .inv .1 .1 .room)
-
-cast-root-answer : tie.Need-cast-root-answer Inv-loop μ-loop
-cast-root-answer c = omega (arith, c .before .loop .inv .1 .1 .most)
-
-root-answer-requires : tie.Need-root-answer-requires Inv-loop μ-loop
-root-answer-requires c κs = tt
-
-returns-2 : tie.Need-returns-2 Inv-loop μ-loop
+returns-2 : tie.Need-returns-2
 returns-2 c =
-    let I = c .before .before .loop .inv in
-    root-read _ _ _ _ _ (I .1 .1) (I .0) (I .1 .0) (c .before .loop-test .left) _ _ _ (c .root-answer .ensures)
+    let a = c .before .before .before .before .before .before in
+    root-checks _ _ _ (c .before .before .before .scan-frames .ensures .passed (c .before .if1 .left))
+    (none-sized (now (a .args .sheet)) (a .pre) .least) _ _ _ (c .root-answer .ensures)
 
 pub check-frames-spec : {M : Type 1} → statement M
 check-frames-spec =
     tie.close
     (tie.spec
-    Inv-loop
-    μ-loop
-    loop-holds
-    fault-at-requires
-    cast-refused
+    scan-frames-requires
     refused-requires
     returns
-    pass-requires
-    add-k
-    loop-less
-    loop-again
     sub-last
     mul-root-answer
     array-read-root-answer

@@ -12,9 +12,6 @@ returns : tie.Need-returns
 unfolding first byteCauses
 returns c = simp (lt-ltb _ _ (c .if1 .taken))
 
-kind-of-requires : tie.Need-kind-of-requires
-kind-of-requires c κs = search needs
-
 used-requires : tie.Need-used-requires
 used-requires c κs = search needs
 
@@ -28,8 +25,8 @@ returns-2 : tie.Need-returns-2
 unfolding first byteCauses
 returns-2 c =
     simp (
-      le-ltb _ _ (c .before .before .before .before .before .if1 .left),
-      sym (c .before .before .before .before .kind-of .ensures),
+      le-ltb _ _ (c .before .before .before .before .if1 .left),
+      sym (c .before .before .before .before .before .pre),
       sym (c .before .before .before .used .ensures),
       sym (c .before .before .spare-set .ensures) ∙ c .if2 .taken,
     )
@@ -38,8 +35,8 @@ returns-3 : tie.Need-returns-3
 unfolding first byteCauses
 returns-3 c =
     simp (
-      le-ltb _ _ (c .before .before .before .before .before .before .if1 .left),
-      sym (c .before .before .before .before .before .kind-of .ensures),
+      le-ltb _ _ (c .before .before .before .before .before .if1 .left),
+      sym (c .before .before .before .before .before .before .pre),
       sym (c .before .before .before .before .used .ensures),
       sym (c .before .before .before .spare-set .ensures) ∙ c .before .if2 .left,
       sym (c .before .before .some-late .ensures) ∙ c .if3 .taken,
@@ -52,8 +49,8 @@ returns-4 : tie.Need-returns-4
 unfolding first byteCauses
 returns-4 c =
     simp (
-      le-ltb _ _ (c .before .before .before .before .before .before .before .if1 .left),
-      sym (c .before .before .before .before .before .before .kind-of .ensures),
+      le-ltb _ _ (c .before .before .before .before .before .before .if1 .left),
+      sym (c .before .before .before .before .before .before .before .pre),
       sym (c .before .before .before .before .before .used .ensures),
       sym (c .before .before .before .before .spare-set .ensures) ∙ c .before .before .if2 .left,
       sym (c .before .before .before .some-late .ensures) ∙ c .before .if3 .left,
@@ -64,7 +61,6 @@ frame-fault-spec =
     tie.close
     (tie.spec
     returns
-    kind-of-requires
     used-requires
     spare-set-requires
     some-late-requires

@@ -1,16 +1,14 @@
--- `sheet::rules::pass` meets its contract: the state before a frame becomes that before the next.
-use Rattle.sheet.specs.Pass.{kind-fit, kind-range, pass-read}
+-- `sheet::rules::pass` meets its contract: the word goes to its place, the range to those bound.
+use mathlib.Core.Path.{ap}
+use denote.Ref.{now}
+use lib.ListN.{set}
+use lib.Bits.{bitOr}
 use borrow.Author.Needs.{needs}
 use Rattle.sheet.proofs.rules.pass.Statement.{statement}
 use Rattle.sheet.proofs.rules.pass.Tie as tie
 
-frame-at-requires : tie.Need-frame-at-requires
-frame-at-requires c κs = search needs
-
 free-word-requires : tie.Need-free-word-requires
-free-word-requires c κs =
-    let q = c .before .before .before .pre in
-    kind-fit _ _ _ _ (q .0) (q .1 .0) (q .1 .1) _ (c .before .frame-at .ensures .1)
+free-word-requires c κs = search needs
 
 mul-words : tie.Need-mul-words
 mul-words c = search needs
@@ -19,23 +17,14 @@ element-write-words : tie.Need-element-write-words
 element-write-words c = search needs
 
 bound-word-requires : tie.Need-bound-word-requires
-bound-word-requires c κs =
-    let q = c .before .before .before .before .pre in
-    kind-range _ _ _ _ (q .0) (q .1 .0) (q .1 .1) _ (c .before .before .frame-at .ensures .1)
+bound-word-requires c κs = search needs
 
 returns : tie.Need-returns
 returns c =
-    let q = c .before .before .before .before .before .pre in
-    pass-read _ _ _ _ (q .0) (q .1 .0) (q .1 .1) _ (c .before .before .before .frame-at .ensures .1) _ _
-    (c .before .free-word .ensures) (c .bound-word .ensures)
+    let a = c .before .before .before .args in
+    (ap (set (now (a .words)) (a .frame .number)) (c .before .free-word .ensures), ap (bitOr (a .bound)) (c .bound-word .ensures))
 
 pub pass-spec : {M : Type 1} → statement M
 pass-spec =
     tie.close
-    (tie.spec
-    frame-at-requires
-    free-word-requires
-    mul-words
-    element-write-words
-    bound-word-requires
-    returns)
+    (tie.spec free-word-requires mul-words element-write-words bound-word-requires returns)
