@@ -16,11 +16,11 @@ use Rattle.words.specs.Mask.{Sub, Apart, Top, without, rangeMask, bit-rangeMask
 use Rattle.cube.specs.Cube.{Fixed}
 use Rattle.formula.specs.Formula.{Formula, never, input, neg, gate, quant, truth, free}
 use Rattle.formula.specs.Reason.{Explains, explains-neg, gate-left, gate-right, explains-set}
-use Rattle.formula.specs.ReasonWord.{word-never, word-input, word-both, word-decided, word-undecided, word-branch, word-skip}
+use Rattle.formula.specs.ReasonWord.{word-never, word-input, word-both, word-decided, word-undecided, word-branch, word-skip, word-values}
 use Rattle.sheet.specs.declared.Kind.{Kind}
 use Rattle.sheet.specs.declared.Kind.the-variants.{Never, Input, Not}
 use Rattle.sheet.specs.Frames.{frames, kind, formula, Ordered}
-use Rattle.records.specs.Table.{Grown, grown-refl, grown-trans, explains-masked}
+use Rattle.records.specs.Table.{Grown, grown-refl, grown-trans}
 use Rattle.records.specs.Put.{Put, valid-put, kept-put}
 use Rattle.records.specs.Locate.{inside-all}
 use Rattle.solver.specs.Contract.{Tables, TablesGrown}
@@ -282,7 +282,7 @@ module _ {u : List ℕ} {cu : ℕ} {o : List ℕ} {co : ℕ} {frame value mask :
       → (s : List ℕ) → Tables s u cu o co → frame < frames s → Explains (formula s frame) (val value) (bit mask) (bit w) → TablesGrown s u cu o co u' cu' o co
   unfolding val
   note-under v p s T h E = record {
-    tables = record { under = valid-put (T .under) p h (and-sub w mask) (explains-masked mask w (rw v at E)); over = T .over };
+    tables = record { under = valid-put (T .under) p h (and-sub w mask) (word-values mask w (rw v at E)); over = T .over };
     under = p .grown;
     over = grown-refl o co;
   }
@@ -291,7 +291,7 @@ module _ {u : List ℕ} {cu : ℕ} {o : List ℕ} {co : ℕ} {frame value mask :
       → (s : List ℕ) → Tables s u cu o co → frame < frames s → Explains (formula s frame) (val value) (bit mask) (bit w) → TablesGrown s u cu o co u cu o' co'
   unfolding val
   note-over v p s T h E = record {
-    tables = record { under = T .under; over = valid-put (T .over) p h (and-sub w mask) (explains-masked mask w (rw v at E)) };
+    tables = record { under = T .under; over = valid-put (T .over) p h (and-sub w mask) (word-values mask w (rw v at E)) };
     under = grown-refl u cu;
     over = p .grown;
   }
