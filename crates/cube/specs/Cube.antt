@@ -6,9 +6,9 @@ use Prim.Native.Nat.{ℕ, _^_, _≤_, _<_}
 use lib.Dec.{eqb}
 use lib.Bits.{bitAnd}
 use borrow.Author.Tests.{eqb-true}
-use Rattle.words.specs.Logic.{by-bool}
+use Rattle.words.specs.Logic.{by-bool, clash}
 use Rattle.words.specs.Word.{bit}
-use Rattle.words.specs.Mask.{Sub, and-sub, placed, placed-at, placed-other, placed-past, placed-lt, placed-sub, agree, Agree, agree-bits, bits-agree, masked-bits, bits-masked}
+use Rattle.words.specs.Mask.{Sub, and-sub, placed, placed-at, placed-other, placed-past, placed-lt, placed-sub, inside, sub-inside, agree, Agree, agree-sub, agree-bits, bits-agree, masked-bits, bits-masked}
 
 -- the cube m′, w′ is m, w with two bits replaced at the variable v: the mask's by t, the values' by b
 pub record Replaced (n m w v : ℕ) (t b : Bool) (m′ w′ : ℕ) : Type 0 where
@@ -82,6 +82,10 @@ module _ {n m w v : ℕ} {t b : Bool} {m′ w′ : ℕ} (r : Replaced n m w v t 
 
       other : (k : ℕ) → bit m′ k ≡ true → eqb k v ≡ false → bit s k ≡ bit w′ k
       other k e o = let q = replaced-other r k o in y k o (sym (q .0) ∙ e) ∙ sym (q .1)
+
+-- values outside the mask agree with nothing
+pub agree-outside : (m w s : ℕ) → inside w m ≡ false → agree m w s ≡ false
+agree-outside m w s h = by-bool (agree m w s) (λ e. clash (inside w m) (sub-inside (agree-sub m w s e)) h) (λ e. e)
 
 -- the made cube's values lie in its mask, and it agrees exactly with the settings that match the word on the mask
 module _ {f x m w : ℕ} (r : Made f x m w) where
