@@ -1,4 +1,5 @@
--- Source 000's L and L' and the search: a candidate that judging excludes satisfies no L, and one that is found satisfies L'. Assumes nothing.
+-- Source 000's L and L' and the search, from what the code ensures: a candidate that judging excludes satisfies no L (`Forced`), and one that is
+-- found satisfies L' where every child was checked (`Told`, `Noted`). Assumes nothing.
 use Prim.Native.Nat.{ℕ, zero, suc, _+_, _-_, _≤_, _<_}
 use native.Mathlib.Omega.{arith}
 use mathlib.Core.Path.{_≡_, refl, sym, _∙_, ap, ap₂}
@@ -12,15 +13,17 @@ use Rattle.words.specs.Word.{bit, bit-ones}
 use Rattle.words.specs.Mask.{Sub, bits-sub, agree-bits}
 use Rattle.formula.specs.Assignment.{Assignment, On, join, differ}
 use Rattle.formula.specs.Formula.{Formula, truth, free}
+use Rattle.formula.specs.Reason.{explains-truth}
 use Rattle.sheet.specs.declared.Kind.{Kind}
 use Rattle.sheet.specs.declared.Kind.the-variants.{Never, Input, Not, And, Or, Exists, Forall}
 use Rattle.sheet.specs.Frames.{kind, formula, Ordered}
-use Rattle.records.specs.Table.{room, maskAt, valuesAt, matches, matches-all, Kept}
+use Rattle.records.specs.Table.{room, maskAt, valuesAt, matches, matches-all, Kept, kept-grown}
+use Rattle.solver.specs.Contract.{TablesGrown}
 use Rattle.solver.specs.Frames.{val, val-not, fit-at, Gated, Quantified, at-never, at-input, at-not, at-gate}
 use Rattle.solver.specs.Lookahead.{proxy, body, Agreeing, L, L′}
 use Rattle.solver.specs.Judge.{Forced}
 use Rattle.solver.specs.JudgeLaws.{body-never, body-input, body-not, body-gate, body-quant, gated-and, gated-or, quantified-exists, quantified-forall}
-use Rattle.solver.specs.Search.{all}
+use Rattle.solver.specs.Search.{Told, Noted, all}
 
 -- Law 1. A frame that is judged to be other than the target under the cube m, w: no assignment of the variables and proxies that extends
 -- the cube satisfies L, so that the candidate is dropped before any child is solved.
@@ -28,6 +31,25 @@ pub excluded : {s u : List ℕ} {cu : ℕ} {o : List ℕ} {co m w a v r t : ℕ}
     → (σ : Assignment) → On (bit m) σ (bit w) → L s u cu o co a (val t) σ → ⊥
 excluded {a = a} {v = v} {t = t} f h l n σ e c =
     differ (val t) (truth _ σ) (c .holds) (f .excludes σ e (c .allowed) ∙ val-not v t h l n)
+
+-- ---- a child that was checked
+
+-- what `quantified` ensures of the child b under the candidate w
+pub record Settled (s : List ℕ) (w : ℕ) (u : List ℕ) (cu : ℕ) (o : List ℕ) (co b : ℕ) : Type 0 where
+  pub value : ℕ
+  pub reason : ℕ
+  pub told : Told s b w value reason
+  pub noted : Noted b value w u cu o co
+
+-- it stays so while the tables grow
+pub settled-grown : {s u u' : List ℕ} {cu cu' : ℕ} {o o' : List ℕ} {co co' w b : ℕ}
+    → TablesGrown s u cu o co u' cu' o' co' → Settled s w u cu o co b → Settled s w u' cu' o' co' b
+settled-grown {w = w} {b = b} g q = record {
+  value = q .value;
+  reason = q .reason;
+  told = q .told;
+  noted = record { under = λ e. kept-grown b all w (g .under) (q .noted .under e); over = λ e. kept-grown b all w (g .over) (q .noted .over e) };
+}
 
 -- ---- the candidate w with each proxy at its frame's truth
 
@@ -89,15 +111,25 @@ module _ (s : List ℕ) (w : ℕ) (o : Ordered 32 (kind s)) where
             ∙ agree-bits (maskAt t j) (valuesAt t j) w (m .agrees) k i;
       }
 
-  -- Law 2. The candidate w gives the body the target's truth, and of each child there is a record that agrees with w: under where the child
-  -- is true, over where it is false. Then L' holds of the candidate. The search leaves such a record of each child that it checks, as long
-  -- as the table has room (`Noted`); a child that the body's value does not need may have none.
-  pub found : {u : List ℕ} {cu : ℕ} {o′ : List ℕ} {co a : ℕ} {t : Bool} → truth (formula s a) (bit w) ≡ t
-      → ((b : ℕ) → free (body s a) (proxy b) ≡ true → truth (formula s b) (bit w) ≡ true → Agreeing u cu b (completed s w))
-      → ((b : ℕ) → free (body s a) (proxy b) ≡ true → truth (formula s b) (bit w) ≡ false → Agreeing o′ co b (completed s w))
-      → L′ s u cu o′ co a t (completed s w)
-  found {a = a} e f g = record {
+  -- a child that was checked has its part of L', as long as the tables have room
+  module _ {u : List ℕ} {cu : ℕ} {o′ : List ℕ} {co b : ℕ} (q : Settled s w u cu o′ co b) where
+    proxy-is : completed s w (proxy b) ≡ val (q .value)
+    proxy-is = completed-proxy s w b ∙ explains-truth (q .told .explains)
+
+    pub settled-true : cu < room u → completed s w (proxy b) ≡ true → Agreeing u cu b (completed s w)
+    unfolding val
+    settled-true h p = kept-agreeing h (q .noted .under (omega (tests, sym proxy-is ∙ p)))
+
+    pub settled-false : co < room o′ → completed s w (proxy b) ≡ false → Agreeing o′ co b (completed s w)
+    unfolding val
+    settled-false h p = kept-agreeing h (q .noted .over (omega (tests, q .told .low, sym proxy-is ∙ p)))
+
+  -- Law 2. The candidate w gives the body the target's truth, and each child was checked. Then L' holds of the candidate, as long as the tables
+  -- have room. (A child that the body's value does not need is not checked, and may have no record.)
+  pub found : {u : List ℕ} {cu : ℕ} {o′ : List ℕ} {co a : ℕ} {t : Bool} → cu < room u → co < room o′ → truth (formula s a) (bit w) ≡ t
+      → ((b : ℕ) → free (body s a) (proxy b) ≡ true → Settled s w u cu o′ co b) → L′ s u cu o′ co a t (completed s w)
+  found {a = a} h l e f = record {
     holds = completed-body a ∙ e;
-    true-proxy = λ b i p. f b i (sym (completed-proxy s w b) ∙ p);
-    false-proxy = λ b i p. g b i (sym (completed-proxy s w b) ∙ p);
+    true-proxy = λ b i p. settled-true (f b i) h p;
+    false-proxy = λ b i p. settled-false (f b i) l p;
   }
