@@ -1,6 +1,6 @@
 -- Source 000's L and L' and the search, from what the code ensures: a candidate that judging excludes satisfies no L (`Forced`), and one that is
--- found satisfies L' where every child was checked (`Told`, `Noted`). Assumes nothing.
-use Prim.Native.Nat.{ℕ, zero, suc, _+_, _-_, _≤_, _<_}
+-- found satisfies L' where every child's value is known (`Settled`). Assumes nothing.
+use Prim.Native.Nat.{ℕ, zero, suc, _+_, _-_, _^_, _≤_, _<_}
 use native.Mathlib.Omega.{arith}
 use mathlib.Core.Path.{_≡_, refl, sym, _∙_, ap, ap₂}
 use mathlib.Core.Bool.{Bool, true, false, not, cond}
@@ -10,20 +10,21 @@ use lib.Dec.{ltb}
 use borrow.Author.Tests.{lt-ltb, le-ltb, ltb-true}
 use Rattle.words.specs.Logic.{by-bool, clash, tests}
 use Rattle.words.specs.Word.{bit, bit-ones}
-use Rattle.words.specs.Mask.{Sub, bits-sub, agree-bits}
+use Rattle.words.specs.Mask.{Sub, bits-sub, sub-trans, agree-bits}
 use Rattle.formula.specs.Assignment.{Assignment, On, join, differ}
 use Rattle.formula.specs.Formula.{Formula, truth, free}
 use Rattle.formula.specs.Reason.{explains-truth}
 use Rattle.sheet.specs.declared.Kind.{Kind}
 use Rattle.sheet.specs.declared.Kind.the-variants.{Never, Input, Not, And, Or, Exists, Forall}
 use Rattle.sheet.specs.Frames.{kind, formula, Ordered}
-use Rattle.records.specs.Table.{room, maskAt, valuesAt, matches, matches-all, Kept, kept-grown}
-use Rattle.solver.specs.Contract.{TablesGrown}
+use Rattle.records.specs.Table.{room, maskAt, valuesAt, matches, matches-all, all-matches, matches-explains, Kept, kept-grown}
+use Rattle.solver.specs.Contract.{Tables, TablesGrown}
 use Rattle.solver.specs.Frames.{val, val-not, fit-at, Gated, Quantified, at-never, at-input, at-not, at-gate}
 use Rattle.solver.specs.Lookahead.{proxy, body, Agreeing, L, L′}
-use Rattle.solver.specs.Judge.{Forced}
+use Rattle.solver.specs.Judge.{Forced, Recorded, RightRecord}
 use Rattle.solver.specs.JudgeLaws.{body-never, body-input, body-not, body-gate, body-quant, gated-and, gated-or, quantified-exists, quantified-forall}
 use Rattle.solver.specs.Search.{Told, Noted, all}
+use Rattle.solver.specs.SearchLaws.{sub-all}
 
 -- Law 1. A frame that is judged to be other than the target under the cube m, w: no assignment of the variables and proxies that extends
 -- the cube satisfies L, so that the candidate is dropped before any child is solved.
@@ -32,9 +33,9 @@ pub excluded : {s u : List ℕ} {cu : ℕ} {o : List ℕ} {co m w a v r t : ℕ}
 excluded {a = a} {v = v} {t = t} f h l n σ e c =
     differ (val t) (truth _ σ) (c .holds) (f .excludes σ e (c .allowed) ∙ val-not v t h l n)
 
--- ---- a child that was checked
+-- ---- a child whose value is known
 
--- what `quantified` ensures of the child b under the candidate w
+-- what `quantified` ensures of the child b when it is checked under the candidate w
 pub record Settled (s : List ℕ) (w : ℕ) (u : List ℕ) (cu : ℕ) (o : List ℕ) (co b : ℕ) : Type 0 where
   pub value : ℕ
   pub reason : ℕ
@@ -50,6 +51,31 @@ settled-grown {w = w} {b = b} g q = record {
   told = q .told;
   noted = record { under = λ e. kept-grown b all w (g .under) (q .noted .under e); over = λ e. kept-grown b all w (g .over) (q .noted .over e) };
 }
+
+-- a child that `recorded` found a record of when the candidate was judged
+pub recorded-settled : {s u : List ℕ} {cu : ℕ} {o : List ℕ} {co m w b v r : ℕ}
+    → Tables s u cu o co → m < 2 ^ 32 → v < 2 → RightRecord u cu o co m w b v r → Settled s w u cu o co b
+unfolding val
+recorded-settled {s} {u} {cu} {o} {co} {m} {w} {b} {v} {r} T h l i = by (i l)
+  where
+    wider : (t : List ℕ) (j : ℕ) → matches t b m w j ≡ true → matches t b all w j ≡ true
+    wider t j e =
+        let x = matches-all t b m w j e in
+        all-matches t b all w j (record { frame-is = x .frame-is; inside = sub-trans (x .inside) (sub-all h); agrees = x .agrees })
+
+    by : ((v ≡ 1) × ((j : ℕ) × Recorded u cu m w b j r)) ⊎ ((v ≡ 0) × ((j : ℕ) × Recorded o co m w b j r)) → Settled s w u cu o co b
+    by (inl (e, (j, c))) = record {
+      value = 1;
+      reason = maskAt u j;
+      told = record { low = omega arith; explains = matches-explains b m w j (T .under) (c .counted) (c .hit) };
+      noted = record { under = λ z. inr (j, c .counted, wider u j (c .hit)); over = λ z. absurd (omega arith) };
+    }
+    by (inr (e, (j, c))) = record {
+      value = 0;
+      reason = maskAt o j;
+      told = record { low = omega arith; explains = matches-explains b m w j (T .over) (c .counted) (c .hit) };
+      noted = record { under = λ z. absurd (omega arith); over = λ z. inr (j, c .counted, wider o j (c .hit)) };
+    }
 
 -- ---- the candidate w with each proxy at its frame's truth
 
@@ -111,7 +137,7 @@ module _ (s : List ℕ) (w : ℕ) (o : Ordered 32 (kind s)) where
             ∙ agree-bits (maskAt t j) (valuesAt t j) w (m .agrees) k i;
       }
 
-  -- a child that was checked has its part of L', as long as the tables have room
+  -- such a child has its part of L', as long as the tables have room
   module _ {u : List ℕ} {cu : ℕ} {o′ : List ℕ} {co b : ℕ} (q : Settled s w u cu o′ co b) where
     proxy-is : completed s w (proxy b) ≡ val (q .value)
     proxy-is = completed-proxy s w b ∙ explains-truth (q .told .explains)
@@ -124,8 +150,8 @@ module _ (s : List ℕ) (w : ℕ) (o : Ordered 32 (kind s)) where
     unfolding val
     settled-false h p = kept-agreeing h (q .noted .over (omega (tests, q .told .low, sym proxy-is ∙ p)))
 
-  -- Law 2. The candidate w gives the body the target's truth, and each child was checked. Then L' holds of the candidate, as long as the tables
-  -- have room. (A child that the body's value does not need is not checked, and may have no record.)
+  -- Law 2. The candidate w gives the body the target's truth, and each child's value is known. Then L' holds of the candidate, as long as the
+  -- tables have room. (A child that the body's value does not need is not checked, and may have no record.)
   pub found : {u : List ℕ} {cu : ℕ} {o′ : List ℕ} {co a : ℕ} {t : Bool} → cu < room u → co < room o′ → truth (formula s a) (bit w) ≡ t
       → ((b : ℕ) → free (body s a) (proxy b) ≡ true → Settled s w u cu o′ co b) → L′ s u cu o′ co a t (completed s w)
   found {a = a} h l e f = record {

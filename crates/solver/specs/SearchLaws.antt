@@ -271,7 +271,7 @@ ground-after g k = record { ordered = g .ordered; few = g .few; tables = k .tabl
 
 -- ---- a record that is kept
 
-sub-all : {x : ℕ} → x < 2 ^ 32 → Sub x all
+pub sub-all : {x : ℕ} → x < 2 ^ 32 → Sub x all
 sub-all {x} h = inside-sub x all (inside-all 32 x h)
 
 module _ {u : List ℕ} {cu : ℕ} {o : List ℕ} {co : ℕ} {frame value mask : ℕ} (w : ℕ) where
