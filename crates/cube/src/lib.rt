@@ -2,7 +2,7 @@
 ghost use mathlib.Core.Path.{_≡_};
 ghost use mathlib.Core.Bool.{true};
 ghost use Rattle.words.specs.Mask.{agree};
-ghost use Rattle.cube.specs.Cube.{Fixed, Freed, Made};
+ghost use Rattle.cube.specs.Cube.{Fixed, Freed, FreedAll, Made};
 
 pub struct Cube {
     pub mask: u32,
@@ -40,6 +40,16 @@ impl Cube {
         Cube {
             mask: words::w32::place(self.mask, variable, false),
             values: words::w32::place(self.values, variable, false),
+        }
+    }
+
+    // The same cube with none of the word's variables fixed.
+    pub fn free_all(self, variables: u32) -> Cube
+        ensures { λ r. ⌜ FreedAll (self .mask) (self .values) variables (r .mask) (r .values) ⌝ }
+    {
+        Cube {
+            mask: words::w32::without(self.mask, variables),
+            values: words::w32::without(self.values, variables),
         }
     }
 

@@ -1,7 +1,7 @@
 -- A table of records of three numbers each (frame, mask, values), of which the first `count` are kept. Assumes nothing.
-use mathlib.Core.Path.{_≡_, refl, sym, _∙_}
+use mathlib.Core.Path.{_≡_, refl, _∙_}
 use mathlib.Core.Logic.{_⊎_, inl, inr}
-use mathlib.Core.Bool.{Bool, true, _&&_, and-true}
+use mathlib.Core.Bool.{Bool, true, _&&_}
 use mathlib.Core.List.{List}
 use Prim.Native.Nat.{ℕ, _+_, _*_, _/_, _<_, _≤_}
 use native.Mathlib.Omega.{arith}
@@ -9,11 +9,11 @@ use lib.ListN.{length, getD}
 use lib.Dec.{eqb}
 use borrow.Author.Tests.{eqb-true, eq-eqb}
 use Rattle.words.specs.Logic.{and-both}
-use lib.Bits.{bitAnd}
-use Rattle.words.specs.Word.{bit, bit-and}
-use Rattle.words.specs.Mask.{Sub, inside, agree, inside-sub, sub-inside, agree-bits, bits-agree}
+use Rattle.words.specs.Word.{bit}
+use Rattle.words.specs.Mask.{Sub, inside, agree, inside-sub, sub-inside, bits-agree}
 use Rattle.formula.specs.Formula.{Formula}
-use Rattle.formula.specs.Reason.{Explains, explains-set}
+use Rattle.formula.specs.Reason.{Explains}
+use Rattle.formula.specs.ReasonWord.{word-agree}
 
 -- ---- record j of the table t, and how many records it has room for
 
@@ -84,12 +84,6 @@ Kept t count frame assigned setting = (room t ≤ count) ⊎ ((j : ℕ) × (j < 
 pub holds-agrees : {φ : ℕ → Formula} {n : ℕ} {v : Bool} {t : List ℕ} {j : ℕ} → Holds φ n v t j → agree (maskAt t j) (valuesAt t j) (valuesAt t j) ≡ true
 holds-agrees {t = t} {j = j} h = bits-agree (maskAt t j) (valuesAt t j) (valuesAt t j) (h .within) (λ k i. refl)
 
--- a kept record says of every setting that it agrees with what it says of its values
-pub holds-explains : {φ : ℕ → Formula} {n : ℕ} {v : Bool} {t : List ℕ} {j : ℕ} (setting : ℕ)
-    → Holds φ n v t j → agree (maskAt t j) (valuesAt t j) setting ≡ true → Explains (φ (frameAt t j)) v (bit (maskAt t j)) (bit setting)
-holds-explains {t = t} {j = j} setting h e =
-    explains-set (h .explains) (bit setting) (λ k i. sym (agree-bits (maskAt t j) (valuesAt t j) setting e k i))
-
 -- nothing is claimed of a table from which nothing is counted
 pub valid-empty : (φ : ℕ → Formula) (n : ℕ) (v : Bool) (t : List ℕ) → Valid φ n v t 0
 valid-empty φ n v t = record { fits = omega arith; each = λ j l. absurd (omega arith) }
@@ -139,11 +133,7 @@ module _ {φ : ℕ → Formula} {n : ℕ} {v : Bool} {t : List ℕ} {count : ℕ
   pub matches-explains : Explains (φ frame) v (bit (maskAt t j)) (bit setting)
   matches-explains =
       let m = matches-all t frame assigned setting j e in
-      rw (m .frame-is) at (holds-explains setting (valid .each j l) (m .agrees))
+      rw (m .frame-is) at (word-agree (maskAt t j) (valuesAt t j) (valid .each j l .explains) setting (m .agrees))
 
   pub matches-sub : Sub (maskAt t j) assigned
   matches-sub = matches-all t frame assigned setting j e .inside
-
--- a reason at w is one at w's values in the mask, as a record has them
-pub explains-masked : {f : Formula} {v : Bool} (mask w : ℕ) → Explains f v (bit mask) (bit w) → Explains f v (bit mask) (bit (bitAnd w mask))
-explains-masked mask w e = explains-set e (bit (bitAnd w mask)) (λ k i. sym (bit-and w mask k ∙ rw i (and-true (bit w k))))

@@ -2,10 +2,12 @@
 ghost use mathlib.Core.Path.{_≡_};
 ghost use Prim.Native.Nat.{_+_, _*_, _<_, _≤_};
 ghost use lib.ListN.{length};
+ghost use Rattle.words.specs.Mask.{agree};
 ghost use Rattle.records.specs.Table.{matches, maskAt};
 ghost use Rattle.records.specs.Put.{Put};
 ghost use Rattle.records.specs.Search.{Finds};
 ghost use Rattle.records.specs.Find.{hit, Part};
+use cube::Cube;
 
 // The mask of every variable: in a setting each has a value.
 const EVERY: u32 = 4294967295;
@@ -23,6 +25,16 @@ pub enum Hit {
     Neither,
 }
 
+// Whether a record's cube agrees with the setting. The maker would drop values outside the mask, with which nothing agrees.
+fn record_agrees(mask: u32, values: u32, setting: u32) -> bool
+    ensures { λ r. ⌜ r ≡ agree mask values setting ⌝ }
+{
+    if words::w32::inside(values, mask) {
+        return Cube::of(mask, values).agrees(setting);
+    }
+    false
+}
+
 // Whether record j is one of this frame, assigns assigned variables only, and agrees with the setting.
 fn matches_at(table: &[u32], j: usize, frame: u32, assigned: u32, setting: u32) -> bool
     requires { ⌜ j * 3 + 3 ≤ length (now table) ⌝ }
@@ -35,7 +47,7 @@ fn matches_at(table: &[u32], j: usize, frame: u32, assigned: u32, setting: u32) 
     let mask = table[p + 1];
     let values = table[p + 2];
     if words::w32::inside(mask, assigned) {
-        return words::w32::agrees(mask, values, setting);
+        return record_agrees(mask, values, setting);
     }
     false
 }

@@ -1,49 +1,16 @@
 -- The refusal of a line, kind by kind, as the code tests it. Assumes nothing.
-use Prim.Native.Nat.{ℕ, _≤_}
-use native.Mathlib.Omega.{arith}
+use Prim.Native.Nat.{ℕ}
 use mathlib.Core.Path.{_≡_}
-use mathlib.Core.Bool.{true, false, not, cond, _||_}
+use mathlib.Core.Bool.{true, false, not, cond}
 use mathlib.Core.List.{List}
 use lib.ListN.{length}
 use lib.Dec.{eqb, leb, ltb}
-use borrow.Author.Tests.{ne-eqb, le-leb}
-use Rattle.words.specs.Logic.{by-bool, or-left, or-right}
+use borrow.Author.Tests.{ne-eqb}
 use Rattle.words.specs.Word.{bit}
 use Rattle.sheet.specs.Refusal as Number
-use Rattle.sheet.specs.Rules.{spareAt, spareSet}
 use Rattle.session.specs.declared.Entry.{Entry}
-use Rattle.session.specs.Model.{Meaning, enteredMask, ENTER, TAKE-BACK, READ, used, unknown, lineRefusal}
+use Rattle.session.specs.Model.{Meaning, enteredMask, ENTER, TAKE-BACK, READ, unknown, lineRefusal}
 use Rattle.session.specs.Entries.{bit-enteredMask}
-
--- ---- spare bytes
-
-used-few : (k : ℕ) → used k ≤ 2
-unfolding used
-used-few k = by-bool (eqb k ENTER) (λ t. rw t (omega arith)) (λ t. by-bool (eqb k READ) (λ u. rw (t, u) (omega arith)) (λ u. rw (t, u) (omega arith)))
-
-used-other : (k : ℕ) → (k ≡ ENTER → ⊥) → used k ≤ 1
-unfolding used
-used-other k f = rw (ne-eqb k ENTER f) (by-bool (eqb k READ) (λ u. rw u (omega arith)) (λ u. rw u (omega arith)))
-
-module _ (k a b c : ℕ) where
-  -- no kind uses C, and only ENTER uses B
-  pub spare-c : (c ≡ 0 → ⊥) → spareSet (used k) a b c ≡ true
-  unfolding spareSet
-  spare-c f =
-      or-right (spareAt (used k) 0 a) (spareAt (used k) 1 b || spareAt (used k) 2 c)
-      (or-right (spareAt (used k) 1 b) (spareAt (used k) 2 c) (rw (le-leb (used k) 2 (used-few k), ne-eqb c 0 f)))
-
-  pub spare-b : (k ≡ ENTER → ⊥) → (b ≡ 0 → ⊥) → spareSet (used k) a b c ≡ true
-  unfolding spareSet
-  spare-b f g =
-      or-right (spareAt (used k) 0 a) (spareAt (used k) 1 b || spareAt (used k) 2 c)
-      (or-left (spareAt (used k) 1 b) (spareAt (used k) 2 c) (rw (le-leb (used k) 1 (used-other k f), ne-eqb b 0 g)))
-
-  pub spare-a : (k ≡ ENTER → ⊥) → (k ≡ READ → ⊥) → b ≡ 0 → c ≡ 0 → spareSet (used k) a b c ≡ not (eqb a 0)
-  unfolding spareSet used
-  spare-a f g d e = rw (ne-eqb k ENTER f, ne-eqb k READ g, d, e) (by-bool (eqb a 0) (λ t. rw t) (λ t. rw t))
-
--- ---- causes
 
 -- the variables that m has open are those of the word
 abbrev pub Opens : Meaning → ℕ → Type 0

@@ -180,6 +180,10 @@ bit-value (e ∷ es) k t = or-cases (bit (valuePart e) k) (bit (enteredValues es
     (λ h. or-left (eqb k (e .variable)) (entered es k) (bit-part e k h))
     (λ h. or-right (eqb k (e .variable)) (entered es k) (bit-value es k h))
 
+-- a variable that is not entered has no value
+pub value-none : (es : List Entry) (k : ℕ) → entered es k ≡ false → bit (enteredValues es) k ≡ false
+value-none es k f = by-bool (bit (enteredValues es) k) (λ t. clash (entered es k) (bit-value es k t) f) (λ t. t)
+
 -- the values lie in the mask
 pub values-mask : (es : List Entry) → Sub (enteredValues es) (enteredMask es)
 values-mask es = sub-bits (enteredValues es) (enteredMask es) (λ k t. bit-enteredMask es k ∙ bit-value es k t)

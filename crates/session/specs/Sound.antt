@@ -2,9 +2,10 @@
 use Prim.Native.Nat.{ℕ, _≤_, _<_}
 use native.Mathlib.Omega.{arith}
 use mathlib.Core.Path.{_≡_, sym}
+use mathlib.Core.Bool.{false}
 use mathlib.Core.List.{List, []}
 use lib.ListN.{length, take}
-use lib.Seq.{length-take-le, getD-take}
+use lib.Seq.{length-take-le, getD-take, take-take}
 use Rattle.formula.specs.Ask.{freeMask}
 use Rattle.words.specs.Word.{bit}
 use Rattle.sheet.specs.Frames.{frames, kind, formula, Ordered}
@@ -13,8 +14,8 @@ use Rattle.records.specs.Table.{valid-empty}
 use Rattle.solver.specs.Contract.{root, Tables, Ready}
 use Rattle.session.specs.declared.Entry.{Entry}
 use Rattle.session.specs.declared.Session.{Session}
-use Rattle.session.specs.Model.{Meaning, meaning, noEntry, enteredMask, enteredValues}
-use Rattle.session.specs.Entries.{Entered, entryAt, none-entered, opens-below, bit-opens, mask-free, values-mask}
+use Rattle.session.specs.Model.{Meaning, meaning, noEntry, enteredMask, enteredValues, entered}
+use Rattle.session.specs.Entries.{Entered, entryAt, none-entered, not-earlier, opens-below, bit-opens, mask-free, values-mask}
 
 -- the entries that stand, oldest first
 abbrev pub standingOf : Session → List Entry
@@ -31,11 +32,12 @@ pub record Checked (s : List ℕ) (free : ℕ) : Type 0 where
   pub few : frames s ≤ 200
   pub opens : free ≡ freeMask 32 (root s)
 
--- the array has its length, and as many entries stand as there are variables at most, each of one of them
+-- the array has its length, and as many entries stand as there are variables at most, each of one that no earlier entry has
 pub record Shaped (x : Session) : Type 0 where
   pub cells : length (x .entries) ≡ 32
   pub within : x .len ≤ 32
   pub low : (i : ℕ) → i < x .len → entryAt (x .entries) i .variable < 32
+  pub fresh : (i : ℕ) → i < x .len → entered (take i (x .entries)) (entryAt (x .entries) i .variable) ≡ false
 
 -- s with free is checked; entries are of open variables, distinct, and valued 0 or 1; the counted records are within the tables u and o, and true
 pub record Sound (s : List ℕ) (free : ℕ) (x : Session) (u o : List ℕ) : Type 0 where
@@ -59,6 +61,7 @@ module _ {s : List ℕ} {free : ℕ} {x : Session} {u o : List ℕ} (d : Sound s
     cells = d .cells;
     within = d .within;
     low = λ i h. opens-below variables (root s) _ (rw (getD-take (x .len) (x .entries) i noEntry h) at (d .entered .opened i (rw sound-length h)));
+    fresh = λ i h. rw (take-take i (x .len) (x .entries) (omega arith), getD-take (x .len) (x .entries) i noEntry h) at (not-earlier i (d .entered) (rw sound-length h));
   }
 
   -- what the model calls open is what the word of the free variables has

@@ -1,23 +1,24 @@
 -- From what the functions of each kind of line give to the contract of a line. Assumes nothing.
-use Prim.Native.Nat.{ℕ, _+_, _-_, _^_, _<_}
+use Prim.Native.Nat.{ℕ, _+_, _-_, _<_}
 use native.Mathlib.Omega.{arith}
 use native.Mathlib.Numerals.{add-one}
 use mathlib.Core.Path.{_≡_, refl, sym, _∙_}
-use mathlib.Core.Bool.{Bool, true, _||_}
+use mathlib.Core.Bool.{Bool, true, false, _||_}
 use mathlib.Core.List.{List, [], _∷_, _++_}
 use lib.ListN.{length, take, length-append}
 use lib.Seq.{take-suc}
-use lib.Bits.{bitOr}
-use lib.Dec.{ltb}
+use lib.Dec.{eqb, ltb}
 use Rattle.words.specs.Logic.{clash, or-false, tests}
+use Rattle.words.specs.Word.{bit}
+use Rattle.cube.specs.Cube.{Fixed, fixed-mask, fixed-values}
 use Rattle.formula.specs.Ask.{Verdict}
 use Rattle.sheet.specs.Rules.{variables, spareSet}
 use Rattle.records.specs.Table.{grown-refl}
 use Rattle.solver.specs.Contract.{root, Ready, TablesGrown, Same}
 use Rattle.session.specs.declared.Entry.{Entry}
 use Rattle.session.specs.declared.Session.{Session}
-use Rattle.session.specs.Model.{Meaning, meaning, Reply, reply, refused, counted, told, judged, noEntry, enteredMask, enteredValues, ENTER, TAKE-BACK, READ, ASK, WHY, used, unknown, lineRefusal, obeyed, line}
-use Rattle.session.specs.Entries.{entryAt, entered-more, entries-at-most, mask-snoc, values-snoc, valuePart}
+use Rattle.session.specs.Model.{Meaning, meaning, Reply, reply, refused, counted, told, judged, noEntry, enteredMask, enteredValues, entered, ENTER, TAKE-BACK, READ, ASK, WHY, used, unknown, lineRefusal, obeyed, line}
+use Rattle.session.specs.Entries.{entryAt, entered-more, entries-at-most, mask-snoc, values-snoc, value-none}
 use Rattle.session.specs.Line.{Passes, refusal-none, line-refused, line-taken}
 use Rattle.session.specs.Invariant.{line-keeps}
 use Rattle.session.specs.Sound.{standingOf, sheetMeaning, Sound, sound-length, sound-ready}
@@ -29,13 +30,17 @@ pub words-none : Words [] 0 0
 unfolding enteredMask enteredValues
 words-none = record { mask-is = refl; values-are = refl }
 
-pub words-next : (l : List Entry) (i mask values mask' values' : ℕ) → i < length l → Words (take i l) mask values
-    → mask' ≡ bitOr mask (2 ^ entryAt l i .variable) → values' ≡ bitOr values (valuePart (entryAt l i)) → Words (take (i + 1) l) mask' values'
-words-next l i mask values mask' values' h w e f =
+-- no value is replaced where no earlier entry is of the variable
+pub words-next : {mask values mask' values' : ℕ} (l : List Entry) (i : ℕ) → i < length l → entryAt l i .variable < 32
+    → entered (take i l) (entryAt l i .variable) ≡ false → Words (take i l) mask values
+    → Fixed 32 mask values (entryAt l i .variable) (eqb (entryAt l i .value) 1) mask' values' → Words (take (i + 1) l) mask' values'
+words-next {values = values} l i h low fresh w F =
     let t = take-suc l i noEntry h in
+    let x = entryAt l i .variable in
+    let none : bit values x ≡ false = rw (w .values-are) (value-none (take i l) x fresh) in
     record {
-      mask-is = rw (add-one, t, mask-snoc (take i l) (entryAt l i)) (e ∙ rw (w .mask-is));
-      values-are = rw (add-one, t, values-snoc (take i l) (entryAt l i)) (f ∙ rw (w .values-are));
+      mask-is = rw (add-one, t, mask-snoc (take i l) (entryAt l i)) (fixed-mask F low ∙ rw (w .mask-is));
+      values-are = rw (add-one, t, values-snoc (take i l) (entryAt l i)) (fixed-values F low none ∙ rw (w .values-are));
     }
 
 -- ---- a verdict told by its two parts

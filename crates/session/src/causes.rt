@@ -4,7 +4,6 @@ ghost use mathlib.Core.Bool.{cond};
 ghost use lib.Dec.{eqb, leb};
 ghost use Rattle.words.specs.Word.{bit};
 ghost use Rattle.sheet.specs.Refusal as Number;
-ghost use Rattle.sheet.specs.Rules.{spareSet};
 ghost use Rattle.session.specs.Model as Model;
 ghost use Rattle.session.specs.Model.{Meaning, lineRefusal};
 ghost use Rattle.session.specs.Sound.{standingOf, Shaped};
@@ -25,23 +24,17 @@ pub const ASK: u8 = 0x13;
 
 pub const WHY: u8 = 0x14;
 
-// Whether a spare byte is not 0: no kind uses C, ENTER alone uses B, and ENTER and READ use A.
-fn spare_set(k: u8, a: u8, b: u8, c: u8) -> bool
-    ensures { λ r. ⌜ r ≡ spareSet (Model.used k) a b c ⌝ }
+// How many of the bytes A B C a kind uses.
+fn used(k: u8) -> u8
+    ensures { λ r. ⌜ r ≡ Model.used k ⌝ }
 {
-    if c != 0 {
-        return true;
-    }
     if k == ENTER {
-        return false;
-    }
-    if b != 0 {
-        return true;
+        return 2;
     }
     if k == READ {
-        return false;
+        return 1;
     }
-    a != 0
+    0
 }
 
 // Whether the kind is none of the five, or a spare byte is not 0.
@@ -54,7 +47,7 @@ fn unknown(k: u8, a: u8, b: u8, c: u8) -> bool
     if k > WHY {
         return true;
     }
-    spare_set(k, a, b, c)
+    sheet::spare_set(used(k), a, b, c)
 }
 
 // Whether the word has the variable; one past the last place it has not.

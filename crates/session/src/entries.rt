@@ -1,10 +1,9 @@
 // The entries of a session: put last, taken from the end, read, and all of them as a cube.
 ghost use mathlib.Core.Path.{_≡_};
 ghost use mathlib.Core.List.{[], _∷_, _++_};
-ghost use Prim.Native.Nat.{_+_, _-_, _^_, _<_, _≤_};
+ghost use Prim.Native.Nat.{_+_, _-_, _<_, _≤_};
 ghost use lib.ListN.{take};
-ghost use lib.Bits.{bitOr};
-ghost use Rattle.session.specs.Entries.{entryAt, valuePart};
+ghost use Rattle.session.specs.Entries.{entryAt};
 ghost use Rattle.session.specs.Sound.{standingOf, Shaped, Empty};
 ghost use Rattle.session.specs.Step.{Moved, Words};
 use crate::Entry;
@@ -57,25 +56,7 @@ pub fn entry_at(session: Session, place: usize) -> Entry
     session.entries[place]
 }
 
-// The cube with the entry's variable fixed at its value.
-fn with_entry(cube: Cube, entry: Entry) -> Cube
-    requires { ⌜ entry .variable < 32 ⌝ }
-    ensures { λ r. ⌜ (r .mask ≡ bitOr (cube .mask) (2 ^ entry .variable)) × (r .values ≡ bitOr (cube .values) (valuePart entry)) ⌝ }
-{
-    let place = words::w32::one(entry.variable);
-    if entry.value == 1 {
-        return Cube {
-            mask: cube.mask | place,
-            values: cube.values | place,
-        };
-    }
-    Cube {
-        mask: cube.mask | place,
-        values: cube.values,
-    }
-}
-
-// The variables entered, and their values.
+// The variables entered, fixed at their values.
 pub fn entered(session: Session) -> Cube
     requires { ⌜ Shaped session ⌝ }
     ensures { λ r. ⌜ Words (standingOf session) (r .mask) (r .values) ⌝ }
@@ -85,7 +66,7 @@ pub fn entered(session: Session) -> Cube
     let mut i: usize = 0;
     while i < n {
         let entry = session.entries[i];
-        cube = with_entry(cube, entry);
+        cube = cube.fix(entry.variable, entry.value == 1);
         i += 1;
     }
     cube

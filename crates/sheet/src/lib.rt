@@ -7,6 +7,7 @@ pub use rules::Checked;
 pub use rules::check;
 pub use rules::check_frames;
 pub use rules::size_fault;
+pub use rules::spare_set;
 ghost use mathlib.Core.Path.{_≡_};
 ghost use Rattle.sheet.specs.Frames.{kindOf, kind};
 

@@ -64,7 +64,7 @@ fn spare_at(n: u8, place: u8, byte: u8) -> bool
 }
 
 // Whether one of the bytes behind the first n is not 0.
-fn spare_set(n: u8, a: u8, b: u8, c: u8) -> bool
+pub fn spare_set(n: u8, a: u8, b: u8, c: u8) -> bool
     ensures { λ r. ⌜ r ≡ Rules.spareSet n a b c ⌝ }
 {
     if spare_at(n, 0, a) {

@@ -13,11 +13,12 @@ use Rattle.words.specs.Mask.{Sub, Apart, without, bit-without, sub-bits, bits-a
 use Rattle.formula.specs.Assignment.{Assignment}
 use Rattle.formula.specs.Formula.{Formula, truth, free}
 use Rattle.formula.specs.Reason.{Explains, explains-truth}
+use Rattle.formula.specs.ReasonWord.{word-values}
 use Rattle.formula.specs.Ask.{Verdict, Bounded, freeMask, bit-free, ask, yes, ask-chosen, ask-explained}
 use Rattle.formula.specs.Ask as Question
 use Rattle.sheet.specs.Frames.{frames, formula}
 use Rattle.sheet.specs.Accepted.{ordered-bounded}
-use Rattle.records.specs.Table.{Valid, Grown, Kept, matches, grown-refl, grown-trans, explains-masked}
+use Rattle.records.specs.Table.{Valid, Grown, Kept, matches, grown-refl, grown-trans}
 use Rattle.records.specs.Put.{Put, valid-put, kept-put}
 use Rattle.records.specs.Search.{FirstBelow, first-kept}
 use Rattle.solver.specs.Contract.{last, root, Tables, Ready, TablesGrown, Promised, Same}
@@ -41,7 +42,7 @@ pub ensured-put : {t : List ℕ} {count : ℕ} {t' : List ℕ} {count' frame : �
 ensured-put assigned setting {reason} p = record {
   grown = p .grown;
   kept = λ i. kept-put assigned setting p i (bits-masked reason setting setting (λ k e. refl));
-  valid = λ φ n v G l E. valid-put G p l (and-sub setting reason) (explains-masked reason setting E);
+  valid = λ φ n v G l E. valid-put G p l (and-sub setting reason) (word-values reason setting E);
 }
 
 -- ---- what the root's free variables are

@@ -1,5 +1,6 @@
--- Source 000's L and L' and the search: a candidate that judging excludes satisfies no L, and one that is found satisfies L'. Assumes nothing.
-use Prim.Native.Nat.{ℕ, zero, suc, _+_, _-_, _≤_, _<_}
+-- Source 000's L and L' and the search, from what the code ensures: a candidate that judging excludes satisfies no L (`Forced`), and one that is
+-- found satisfies L' where every child's value is known (`Settled`). Assumes nothing.
+use Prim.Native.Nat.{ℕ, zero, suc, _+_, _-_, _^_, _≤_, _<_}
 use native.Mathlib.Omega.{arith}
 use mathlib.Core.Path.{_≡_, refl, sym, _∙_, ap, ap₂}
 use mathlib.Core.Bool.{Bool, true, false, not, cond}
@@ -9,18 +10,21 @@ use lib.Dec.{ltb}
 use borrow.Author.Tests.{lt-ltb, le-ltb, ltb-true}
 use Rattle.words.specs.Logic.{by-bool, clash, tests}
 use Rattle.words.specs.Word.{bit, bit-ones}
-use Rattle.words.specs.Mask.{Sub, bits-sub, agree-bits}
+use Rattle.words.specs.Mask.{Sub, bits-sub, sub-trans, agree-bits}
 use Rattle.formula.specs.Assignment.{Assignment, On, join, differ}
 use Rattle.formula.specs.Formula.{Formula, truth, free}
+use Rattle.formula.specs.Reason.{explains-truth}
 use Rattle.sheet.specs.declared.Kind.{Kind}
 use Rattle.sheet.specs.declared.Kind.the-variants.{Never, Input, Not, And, Or, Exists, Forall}
 use Rattle.sheet.specs.Frames.{kind, formula, Ordered}
-use Rattle.records.specs.Table.{room, maskAt, valuesAt, matches, matches-all, Kept}
+use Rattle.records.specs.Table.{room, maskAt, valuesAt, matches, matches-all, all-matches, matches-explains, Kept, kept-grown}
+use Rattle.solver.specs.Contract.{Tables, TablesGrown}
 use Rattle.solver.specs.Frames.{val, val-not, fit-at, Gated, Quantified, at-never, at-input, at-not, at-gate}
 use Rattle.solver.specs.Lookahead.{proxy, body, Agreeing, L, L′}
-use Rattle.solver.specs.Judge.{Forced}
+use Rattle.solver.specs.Judge.{Forced, Recorded, RightRecord}
 use Rattle.solver.specs.JudgeLaws.{body-never, body-input, body-not, body-gate, body-quant, gated-and, gated-or, quantified-exists, quantified-forall}
-use Rattle.solver.specs.Search.{all}
+use Rattle.solver.specs.Search.{Told, Noted, all}
+use Rattle.solver.specs.SearchLaws.{sub-all}
 
 -- Law 1. A frame that is judged to be other than the target under the cube m, w: no assignment of the variables and proxies that extends
 -- the cube satisfies L, so that the candidate is dropped before any child is solved.
@@ -28,6 +32,50 @@ pub excluded : {s u : List ℕ} {cu : ℕ} {o : List ℕ} {co m w a v r t : ℕ}
     → (σ : Assignment) → On (bit m) σ (bit w) → L s u cu o co a (val t) σ → ⊥
 excluded {a = a} {v = v} {t = t} f h l n σ e c =
     differ (val t) (truth _ σ) (c .holds) (f .excludes σ e (c .allowed) ∙ val-not v t h l n)
+
+-- ---- a child whose value is known
+
+-- what `quantified` ensures of the child b when it is checked under the candidate w
+pub record Settled (s : List ℕ) (w : ℕ) (u : List ℕ) (cu : ℕ) (o : List ℕ) (co b : ℕ) : Type 0 where
+  pub value : ℕ
+  pub reason : ℕ
+  pub told : Told s b w value reason
+  pub noted : Noted b value w u cu o co
+
+-- it stays so while the tables grow
+pub settled-grown : {s u u' : List ℕ} {cu cu' : ℕ} {o o' : List ℕ} {co co' w b : ℕ}
+    → TablesGrown s u cu o co u' cu' o' co' → Settled s w u cu o co b → Settled s w u' cu' o' co' b
+settled-grown {w = w} {b = b} g q = record {
+  value = q .value;
+  reason = q .reason;
+  told = q .told;
+  noted = record { under = λ e. kept-grown b all w (g .under) (q .noted .under e); over = λ e. kept-grown b all w (g .over) (q .noted .over e) };
+}
+
+-- a child that `recorded` found a record of when the candidate was judged
+pub recorded-settled : {s u : List ℕ} {cu : ℕ} {o : List ℕ} {co m w b v r : ℕ}
+    → Tables s u cu o co → m < 2 ^ 32 → v < 2 → RightRecord u cu o co m w b v r → Settled s w u cu o co b
+unfolding val
+recorded-settled {s} {u} {cu} {o} {co} {m} {w} {b} {v} {r} T h l i = by (i l)
+  where
+    wider : (t : List ℕ) (j : ℕ) → matches t b m w j ≡ true → matches t b all w j ≡ true
+    wider t j e =
+        let x = matches-all t b m w j e in
+        all-matches t b all w j (record { frame-is = x .frame-is; inside = sub-trans (x .inside) (sub-all h); agrees = x .agrees })
+
+    by : ((v ≡ 1) × ((j : ℕ) × Recorded u cu m w b j r)) ⊎ ((v ≡ 0) × ((j : ℕ) × Recorded o co m w b j r)) → Settled s w u cu o co b
+    by (inl (e, (j, c))) = record {
+      value = 1;
+      reason = maskAt u j;
+      told = record { low = omega arith; explains = matches-explains b m w j (T .under) (c .counted) (c .hit) };
+      noted = record { under = λ z. inr (j, c .counted, wider u j (c .hit)); over = λ z. absurd (omega arith) };
+    }
+    by (inr (e, (j, c))) = record {
+      value = 0;
+      reason = maskAt o j;
+      told = record { low = omega arith; explains = matches-explains b m w j (T .over) (c .counted) (c .hit) };
+      noted = record { under = λ z. absurd (omega arith); over = λ z. inr (j, c .counted, wider o j (c .hit)) };
+    }
 
 -- ---- the candidate w with each proxy at its frame's truth
 
@@ -89,15 +137,25 @@ module _ (s : List ℕ) (w : ℕ) (o : Ordered 32 (kind s)) where
             ∙ agree-bits (maskAt t j) (valuesAt t j) w (m .agrees) k i;
       }
 
-  -- Law 2. The candidate w gives the body the target's truth, and of each child there is a record that agrees with w: under where the child
-  -- is true, over where it is false. Then L' holds of the candidate. The search leaves such a record of each child that it checks, as long
-  -- as the table has room (`Noted`); a child that the body's value does not need may have none.
-  pub found : {u : List ℕ} {cu : ℕ} {o′ : List ℕ} {co a : ℕ} {t : Bool} → truth (formula s a) (bit w) ≡ t
-      → ((b : ℕ) → free (body s a) (proxy b) ≡ true → truth (formula s b) (bit w) ≡ true → Agreeing u cu b (completed s w))
-      → ((b : ℕ) → free (body s a) (proxy b) ≡ true → truth (formula s b) (bit w) ≡ false → Agreeing o′ co b (completed s w))
-      → L′ s u cu o′ co a t (completed s w)
-  found {a = a} e f g = record {
+  -- such a child has its part of L', as long as the tables have room
+  module _ {u : List ℕ} {cu : ℕ} {o′ : List ℕ} {co b : ℕ} (q : Settled s w u cu o′ co b) where
+    proxy-is : completed s w (proxy b) ≡ val (q .value)
+    proxy-is = completed-proxy s w b ∙ explains-truth (q .told .explains)
+
+    pub settled-true : cu < room u → completed s w (proxy b) ≡ true → Agreeing u cu b (completed s w)
+    unfolding val
+    settled-true h p = kept-agreeing h (q .noted .under (omega (tests, sym proxy-is ∙ p)))
+
+    pub settled-false : co < room o′ → completed s w (proxy b) ≡ false → Agreeing o′ co b (completed s w)
+    unfolding val
+    settled-false h p = kept-agreeing h (q .noted .over (omega (tests, q .told .low, sym proxy-is ∙ p)))
+
+  -- Law 2. The candidate w gives the body the target's truth, and each child's value is known. Then L' holds of the candidate, as long as the
+  -- tables have room. (A child that the body's value does not need is not checked, and may have no record.)
+  pub found : {u : List ℕ} {cu : ℕ} {o′ : List ℕ} {co a : ℕ} {t : Bool} → cu < room u → co < room o′ → truth (formula s a) (bit w) ≡ t
+      → ((b : ℕ) → free (body s a) (proxy b) ≡ true → Settled s w u cu o′ co b) → L′ s u cu o′ co a t (completed s w)
+  found {a = a} h l e f = record {
     holds = completed-body a ∙ e;
-    true-proxy = λ b i p. f b i (sym (completed-proxy s w b) ∙ p);
-    false-proxy = λ b i p. g b i (sym (completed-proxy s w b) ∙ p);
+    true-proxy = λ b i p. settled-true (f b i) h p;
+    false-proxy = λ b i p. settled-false (f b i) l p;
   }

@@ -9,18 +9,18 @@ use lib.Dec.{eqb, leb, ltb}
 use lib.ListN.{length, getD, set, length-set, replicate}
 use lib.Seq.{getD-set-same, getD-set-other}
 use lib.Bits.{bitAnd, bitOr}
-use borrow.Author.Tests.{eqb-true, eq-eqb, lt-ltb}
+use borrow.Author.Tests.{eqb-true, eq-eqb}
 use Rattle.words.specs.Logic.{by-bool, clash, tests, or-left, or-right, and-both, not-true}
 use Rattle.words.specs.Word.{bit, bit-or, bit-pow, bit-none}
 use Rattle.words.specs.Mask.{Sub, Apart, Top, without, rangeMask, bit-rangeMask, bit-without, sub-bits, bits-sub, bits-apart, apart-bits, apart-sub, apart-sym, sub-trans, without-sub, without-apart, or-sum, sub-le, top-bit, top-rest, sub-split, add-one-sub, one-sub, none-sub, or-apart, put, placed, without-none, sub-antisym, sub-without, sub-refl, and-sub, bits-masked, inside-sub}
-use Rattle.cube.specs.Cube.{Fixed}
+use Rattle.cube.specs.Cube.{Fixed, FreedAll, placed-put}
 use Rattle.formula.specs.Formula.{Formula, never, input, neg, gate, quant, truth, free}
 use Rattle.formula.specs.Reason.{Explains, explains-neg, gate-left, gate-right, explains-set}
-use Rattle.formula.specs.ReasonWord.{word-never, word-input, word-both, word-decided, word-undecided, word-branch, word-skip}
+use Rattle.formula.specs.ReasonWord.{word-never, word-input, word-both, word-decided, word-undecided, word-branch, word-skip, word-values}
 use Rattle.sheet.specs.declared.Kind.{Kind}
 use Rattle.sheet.specs.declared.Kind.the-variants.{Never, Input, Not}
 use Rattle.sheet.specs.Frames.{frames, kind, formula, Ordered}
-use Rattle.records.specs.Table.{Grown, grown-refl, grown-trans, explains-masked}
+use Rattle.records.specs.Table.{Grown, grown-refl, grown-trans}
 use Rattle.records.specs.Put.{Put, valid-put, kept-put}
 use Rattle.records.specs.Locate.{inside-all}
 use Rattle.solver.specs.Contract.{Tables, TablesGrown}
@@ -133,10 +133,6 @@ module _ {loose x w : ℕ} (t : Top loose x) (d : Apart w loose) where
 
 -- ---- the same as the code has them: p is the word of x, `rest` the loose variables without x, m′, w′ the cube with x fixed
 
-pub placed-put : {v : ℕ} (w : ℕ) (b : Bool) → v < 32 → placed 32 w v b ≡ put w v b
-unfolding placed
-placed-put {v} w b h = rw (lt-ltb v 32 h)
-
 module _ {s : List ℕ} {a t loose m w x p rest : ℕ} (T : Top loose x) (l : x < 32) (ep : p ≡ 2 ^ x) (er : rest ≡ without loose p) (P : Posed s a t loose m w) where
   rest-is : rest ≡ without loose (2 ^ x)
   rest-is = er ∙ ap (without loose) ep
@@ -217,16 +213,17 @@ module _ (s : List ℕ) (i w : ℕ) {t x b c : ℕ} (o : Ordered 32 (kind s)) (q
       (explains-set (word-undecided b c r (h .explains) (h .apart)) (bit w) (λ k e. off-mask w (rangeMask b c) k (bits-apart (h .apart) k e)))
 
 -- the same as the code has them
-pub body-posed : {s : List ℕ} {x t range m′ w′ : ℕ} (m w : ℕ) → m′ ≡ without m range → w′ ≡ without w range → x < frames s → t < 2 → Posed s x t range m′ w′
-body-posed {range = range} m w em ew h l = record { here = h; target = l; apart = rw em (without-apart m range); clear = rw ew (without-apart w range) }
+pub body-posed : {s : List ℕ} {x t range m w m′ w′ : ℕ} → FreedAll m w range m′ w′ → x < frames s → t < 2 → Posed s x t range m′ w′
+body-posed {range = range} {m = m} {w = w} F h l =
+    record { here = h; target = l; apart = rw (F .mask) (without-apart m range); clear = rw (F .values) (without-apart w range) }
 
-module _ (s : List ℕ) (i w : ℕ) {t x b c range w′ : ℕ} (o : Ordered 32 (kind s)) (q : Quantified (kind s i) t x b c)
-    (er : range ≡ rangeMask b c) (ew : w′ ≡ without w range) where
+module _ (s : List ℕ) (i : ℕ) {t x b c range m w m′ w′ : ℕ} (o : Ordered 32 (kind s)) (q : Quantified (kind s i) t x b c)
+    (er : range ≡ rangeMask b c) (F : FreedAll m w range m′ w′) where
   pub body-met : {word r z : ℕ} → Met s x t range w′ word r → z ≡ without r range → Explains (formula s i) (val t) (bit z) (bit w)
-  body-met h e = rw (e, er) (explains-met s i w o q (rw (ew, er) at h))
+  body-met h e = rw (e, er) (explains-met s i w o q (rw (F .values, er) at h))
 
   pub body-missed : {r z : ℕ} → t < 2 → Missed s x t range w′ r → z ≡ without r range → Explains (formula s i) (val (1 - t)) (bit z) (bit w)
-  body-missed l h e = rw (e, er, val-flip t l) (explains-missed s i w o q (rw (ew, er) at h))
+  body-missed l h e = rw (e, er, val-flip t l) (explains-missed s i w o q (rw (F .values, er) at h))
 
 -- ---- a frame of another kind, from the values of the frames that it names
 
@@ -274,7 +271,7 @@ ground-after g k = record { ordered = g .ordered; few = g .few; tables = k .tabl
 
 -- ---- a record that is kept
 
-sub-all : {x : ℕ} → x < 2 ^ 32 → Sub x all
+pub sub-all : {x : ℕ} → x < 2 ^ 32 → Sub x all
 sub-all {x} h = inside-sub x all (inside-all 32 x h)
 
 module _ {u : List ℕ} {cu : ℕ} {o : List ℕ} {co : ℕ} {frame value mask : ℕ} (w : ℕ) where
@@ -282,7 +279,7 @@ module _ {u : List ℕ} {cu : ℕ} {o : List ℕ} {co : ℕ} {frame value mask :
       → (s : List ℕ) → Tables s u cu o co → frame < frames s → Explains (formula s frame) (val value) (bit mask) (bit w) → TablesGrown s u cu o co u' cu' o co
   unfolding val
   note-under v p s T h E = record {
-    tables = record { under = valid-put (T .under) p h (and-sub w mask) (explains-masked mask w (rw v at E)); over = T .over };
+    tables = record { under = valid-put (T .under) p h (and-sub w mask) (word-values mask w (rw v at E)); over = T .over };
     under = p .grown;
     over = grown-refl o co;
   }
@@ -291,7 +288,7 @@ module _ {u : List ℕ} {cu : ℕ} {o : List ℕ} {co : ℕ} {frame value mask :
       → (s : List ℕ) → Tables s u cu o co → frame < frames s → Explains (formula s frame) (val value) (bit mask) (bit w) → TablesGrown s u cu o co u cu o' co'
   unfolding val
   note-over v p s T h E = record {
-    tables = record { under = T .under; over = valid-put (T .over) p h (and-sub w mask) (explains-masked mask w (rw v at E)) };
+    tables = record { under = T .under; over = valid-put (T .over) p h (and-sub w mask) (word-values mask w (rw v at E)) };
     under = grown-refl u cu;
     over = p .grown;
   }

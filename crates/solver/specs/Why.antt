@@ -9,8 +9,8 @@ use lib.Dec.{eqb}
 use borrow.Author.Tests.{eqb-true}
 use Rattle.words.specs.Logic.{by-bool, clash, not-not}
 use Rattle.words.specs.Word.{bit, bit-pow}
-use Rattle.words.specs.Mask.{Sub, Apart, without, put, placed, bit-without, without-none, sub-bits, bits-apart, bits-sub, sub-trans, sub-without, without-sub, without-apart, without-mono, apart-sub, apart-sym, apart-bits, or-sum, or-sub}
-use Rattle.cube.specs.Cube.{Freed, freed-sub}
+use Rattle.words.specs.Mask.{Sub, Apart, without, bit-without, without-none, sub-bits, bits-apart, bits-sub, sub-trans, sub-without, without-sub, without-apart, without-mono, apart-sub, apart-sym, apart-bits, or-sum, or-sub}
+use Rattle.cube.specs.Cube.{Freed, freed-sub, freed-one}
 use Rattle.formula.specs.Assignment.{On}
 use Rattle.formula.specs.Formula.{Formula, truth, free}
 use Rattle.formula.specs.Reason.{Explains, explains-truth, explains-set}
@@ -20,7 +20,7 @@ use Rattle.formula.specs.Why.{always, reduce, why, startMask, startWord, explai
 use Rattle.solver.specs.Contract.{last, root, Ready, TablesGrown, Same}
 use Rattle.solver.specs.Frames.{val, val-flip}
 use Rattle.solver.specs.Search.{Ground, Posed, Met, Missed}
-use Rattle.solver.specs.SearchLaws.{bit-plus, placed-put, off-mask, or-none, tables-refl, tables-trans}
+use Rattle.solver.specs.SearchLaws.{bit-plus, off-mask, or-none, tables-refl, tables-trans}
 use Rattle.solver.specs.Ask.{ready-bounded, reason-inside, reason-free}
 
 -- what is left of w is the cube m, y, inside which the variables of r force the last frame's truth v
@@ -48,12 +48,10 @@ turned-absent {s} {v} {m} {x = x} e = record {
 module _ {s : List ℕ} {opens m y : ℕ} {u : List ℕ} {cu : ℕ} {o : List ℕ} {co : ℕ} (R : Ready s opens m y u cu o co)
     {v x : ℕ} (b : v < 2) (l : x < 32) {m′ y′ : ℕ} (F : Freed 32 m y x m′ y′) where
   mask-is : m′ ≡ without m (2 ^ x)
-  unfolding put
-  mask-is = F .mask ∙ placed-put m false l
+  mask-is = freed-one l F .mask
 
   values-are : y′ ≡ without y (2 ^ x)
-  unfolding put
-  values-are = F .values ∙ placed-put y false l
+  values-are = freed-one l F .values
 
   less-sub : Sub m′ m
   less-sub = rw mask-is (without-sub m (2 ^ x))

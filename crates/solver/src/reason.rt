@@ -9,10 +9,9 @@ ghost use Rattle.solver.specs.Contract.{root, Ready, TablesGrown, Same};
 ghost use Rattle.solver.specs.Frames.{val};
 ghost use Rattle.solver.specs.Why.{Held, Turned};
 
-// What is left of a reason's start, its values, and a reason inside it that a proof has shown.
+// What is left of a reason's start, and a reason inside it that a proof has shown.
 struct Left {
-    mask: u32,
-    values: u32,
+    cube: Cube,
     reason: u32,
     under: usize,
     over: usize,
@@ -33,13 +32,12 @@ fn dropped(
 ) -> Left
     requires { ⌜ (v < 2) × (variable < 32) ⌝ }
     requires { ⌜ Ready (now sheet) free (cube .mask) (cube .values) (now under) nu (now over) no ⌝ }
-    ensures { λ r. ⌜ Turned (now (sheet .entry)) v (cube .mask) (cube .values) reason variable (r .mask) (r .values) (r .reason) ⌝ }
+    ensures { λ r. ⌜ Turned (now (sheet .entry)) v (cube .mask) (cube .values) reason variable (r .cube .mask) (r .cube .values) (r .reason) ⌝ }
     ensures { λ r. ⌜ TablesGrown (now (sheet .entry)) (now (under .entry)) nu (now (over .entry)) no (now (under .exit)) (r .under) (now (over .exit)) (r .over) ⌝ }
 {
     if !words::w32::has(cube.mask, variable) {
         return Left {
-            mask: cube.mask,
-            values: cube.values,
+            cube,
             reason,
             under: nu,
             over: no,
@@ -48,8 +46,7 @@ fn dropped(
     let less = cube.free(variable);
     if !words::w32::has(reason, variable) {
         return Left {
-            mask: less.mask,
-            values: less.values,
+            cube: less,
             reason,
             under: nu,
             over: no,
@@ -69,16 +66,14 @@ fn dropped(
     );
     if s.found {
         return Left {
-            mask: cube.mask,
-            values: cube.values,
+            cube,
             reason,
             under: s.under,
             over: s.over,
         };
     }
     Left {
-        mask: less.mask,
-        values: less.values,
+        cube: less,
         reason: s.reason,
         under: s.under,
         over: s.over,
@@ -100,12 +95,11 @@ fn reduced(
     requires { ⌜ v < 2 ⌝ }
     requires { ⌜ Ready (now sheet) free (cube .mask) (cube .values) (now under) nu (now over) no ⌝ }
     requires { ⌜ Held (now sheet) v (cube .values) (cube .mask) (cube .values) reason ⌝ }
-    ensures { λ r. ⌜ r .mask ≡ reduce 32 (root (now (sheet .entry))) (cube .values) (val v) 32 (cube .mask) ⌝ }
+    ensures { λ r. ⌜ r .cube .mask ≡ reduce 32 (root (now (sheet .entry))) (cube .values) (val v) 32 (cube .mask) ⌝ }
     ensures { λ r. ⌜ TablesGrown (now (sheet .entry)) (now (under .entry)) nu (now (over .entry)) no (now (under .exit)) (r .under) (now (over .exit)) (r .over) ⌝ }
 {
     let mut left = Left {
-        mask: cube.mask,
-        values: cube.values,
+        cube,
         reason,
         under: nu,
         over: no,
@@ -117,10 +111,7 @@ fn reduced(
             sheet,
             v,
             free,
-            Cube {
-                mask: left.mask,
-                values: left.values,
-            },
+            left.cube,
             left.reason,
             x,
             under,
@@ -165,7 +156,7 @@ pub fn why(
         );
         return Answered {
             holds: true,
-            word: left.mask,
+            word: left.cube.mask,
             under: left.under,
             over: left.over,
         };
@@ -183,7 +174,7 @@ pub fn why(
     );
     Answered {
         holds: false,
-        word: left.mask,
+        word: left.cube.mask,
         under: left.under,
         over: left.over,
     }

@@ -551,10 +551,7 @@ fn quantified(
         };
     }
     let range = words::w32::range_mask(first, count);
-    let inner = Cube {
-        mask: words::w32::without(cube.mask, range),
-        values: words::w32::without(cube.values, range),
-    };
+    let inner = cube.free_all(range);
     let s = solve(sheet, x, d, range, inner, under, nu, over, no);
     let reason = words::w32::without(s.reason, range);
     if s.found {

@@ -40,12 +40,12 @@ shared-slice-read-values c = search needs
 inside-requires : tie.Need-inside-requires
 inside-requires c κs = search needs
 
-agrees-requires : tie.Need-agrees-requires
-agrees-requires c κs = search needs
+record-agrees-requires : tie.Need-record-agrees-requires
+record-agrees-requires c κs = search needs
 
 returns-2 : tie.Need-returns-2
 unfolding matches
-returns-2 c = simp (eq-eqb _ _ (c .before .before .before .before .before .if1 .left), sym (c .before .before .inside .ensures) ∙ c .before .if2 .taken, c .agrees .ensures)
+returns-2 c = simp (eq-eqb _ _ (c .before .before .before .before .before .if1 .left), sym (c .before .before .inside .ensures) ∙ c .before .if2 .taken, c .record-agrees .ensures)
 
 returns-3 : tie.Need-returns-3
 unfolding matches
@@ -66,6 +66,6 @@ matches-at-spec =
     mul-values
     shared-slice-read-values
     inside-requires
-    agrees-requires
+    record-agrees-requires
     returns-2
     returns-3)

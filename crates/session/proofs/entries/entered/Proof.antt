@@ -1,6 +1,7 @@
 -- `session::entries::entered` meets its contract. The invariant: the cube has the words of the first `i` entries. The measure is what is left of the entries.
 use Prim.Native.Nat.{_-_, _≤_}
 use native.Mathlib.Omega.{arith}
+use borrow.Author.Needs.{needs}
 use mathlib.Core.Path.{_≡_}
 use lib.ListN.{take}
 use Rattle.session.specs.Step.{Words}
@@ -23,20 +24,20 @@ mul-entry c = omega (arith, c .before .before .pre .within)
 element-copy-out-entry : tie.Need-element-copy-out-entry Inv-loop μ-loop
 element-copy-out-entry c = omega (arith, c .before .before .pre .within)
 
-with-entry-requires : tie.Need-with-entry-requires Inv-loop μ-loop
-with-entry-requires c κs = c .before .before .before .pre .low (c .before .before .loop .i) (omega arith)
+fix-requires : tie.Need-fix-requires Inv-loop μ-loop
+fix-requires c κs = search needs
 
 add-i : tie.Need-add-i Inv-loop μ-loop
-add-i c = omega (arith, c .before .before .before .before .pre .within)
+add-i c = omega (arith, c .before .before .before .before .before .pre .within)
 
 loop-less : tie.Need-loop-less Inv-loop μ-loop
 loop-less c = omega arith
 
 loop-again : tie.Need-loop-again Inv-loop μ-loop
 loop-again c =
-    let l = c .before .before .before .loop in
-    let e = c .with-entry .ensures in
-    (omega arith, words-next _ (l .i) _ _ _ _ (omega (arith, c .before .before .before .before .pre .cells, c .before .before .before .before .pre .within)) (l .inv .1) (e .0) (e .1))
+    let l = c .before .before .before .before .loop in
+    let p = c .before .before .before .before .before .pre in
+    (omega arith, words-next _ (l .i) (omega (arith, p .cells, p .within)) (p .low (l .i) (omega arith)) (p .fresh (l .i) (omega arith)) (l .inv .1) (c .fix .ensures))
 
 returns : tie.Need-returns Inv-loop μ-loop
 returns c =
@@ -52,7 +53,7 @@ entered-spec =
     loop-holds
     mul-entry
     element-copy-out-entry
-    with-entry-requires
+    fix-requires
     add-i
     loop-less
     loop-again

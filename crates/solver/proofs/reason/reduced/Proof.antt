@@ -6,7 +6,7 @@ use Rattle.solver.proofs.reason.reduced.Statement.{statement}
 use Rattle.solver.proofs.reason.reduced.Tie as tie
 
 abbrev Inv-loop : tie.InvT-loop
-Inv-loop sheet v free reason under₀ nu over₀ no' left₀ x₀ under over left x = Reducing sheet free v (left₀ .mask) (left₀ .values) under₀ nu over₀ no' x (left .mask) (left .values) (left .reason) under (left .under) over (left .over)
+Inv-loop sheet v free reason under₀ nu over₀ no' left₀ x₀ under over left x = Reducing sheet free v (left₀ .cube .mask) (left₀ .cube .values) under₀ nu over₀ no' x (left .cube .mask) (left .cube .values) (left .reason) under (left .under) over (left .over)
 
 abbrev μ-loop : tie.MeasureT-loop
 μ-loop sheet v free reason under₀ nu over₀ no' left₀ x₀ under over left x = x

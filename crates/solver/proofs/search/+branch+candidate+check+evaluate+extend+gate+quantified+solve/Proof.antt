@@ -39,6 +39,7 @@ use Rattle.solver.proofs.search.solve.Reads as solve
 use Rattle.solver.proofs.search.solve.Kinds as solve-kinds
 use Rattle.solver.proofs.search.+branch+candidate+check+evaluate+extend+gate+quantified+solve.Lts-solve as solve-lts
 use Rattle.cube.proofs.Cube.fix.Reads as fix-reads
+use Rattle.cube.proofs.Cube.free_all.Reads as free-all-reads
 use Rattle.records.proofs.mask_of.Reads as mask-of-reads
 use Rattle.records.proofs.search.Reads as search-reads
 use Rattle.sheet.proofs.frame_at.Reads as frame-at-reads
@@ -205,10 +206,12 @@ quantified-claims t = (
   mask-of-reads.Learnt,
   range-mask-reads.Asked,
   range-mask-reads.Learnt,
-  without-reads.Asked,
-  without-reads.Learnt,
+  free-all-reads.Asked,
+  free-all-reads.Learnt,
   solve-below t,
   solve.Post,
+  without-reads.Asked,
+  without-reads.Learnt,
   note-reads.Asked,
   note-reads.Learnt,
 )
@@ -979,28 +982,24 @@ quantified-range-mask-requires t c κs =
     let pre° = c .before .before .before .before .before .before .before .before .before .before .before .pre in
     pre° .1 .0 .3
 
-quantified-without-requires : (t : ℕ) → quantified-lts.Need-without-requires (quantified-claims t) (quantified-at t) quantified.Post
-quantified-without-requires t c κs = search needs
-
-quantified-without-requires-2 : (t : ℕ) → quantified-lts.Need-without-requires-2 (quantified-claims t) (quantified-at t) quantified.Post
-quantified-without-requires-2 t c κs = search needs
+quantified-free-all-requires : (t : ℕ) → quantified-lts.Need-free-all-requires (quantified-claims t) (quantified-at t) quantified.Post
+quantified-free-all-requires t c κs = search needs
 
 quantified-solve-requires : (t : ℕ) → quantified-lts.Need-solve-requires (quantified-claims t) (quantified-at t) quantified.Post
 quantified-solve-requires t c κs =
-    let pre° = c .before .before .before .before .before .before .before .before .before .before .before .before .before .before .before .before .pre in
-    let without° = c .before .before .before .without in
-    let without2° = c .before .before .without2 in (
+    let pre° = c .before .before .before .before .before .before .before .before .before .before .before .before .before .before .before .pre in
+    let free-all° = c .before .before .free-all in (
       omega (arith, pre° .0, pre° .1 .0 .1),
-      (body-posed _ _ (without° .ensures) (without2° .ensures) (omega (arith, pre° .1 .0 .0, pre° .1 .0 .1)) (pre° .1 .0 .2), pre° .1 .1),
+      (body-posed (free-all° .ensures) (omega (arith, pre° .1 .0 .0, pre° .1 .0 .1)) (pre° .1 .0 .2), pre° .1 .1),
     )
 
-quantified-without-requires-3 : (t : ℕ) → quantified-lts.Need-without-requires-3 (quantified-claims t) (quantified-at t) quantified.Post
-quantified-without-requires-3 t c κs = search needs
+quantified-without-requires : (t : ℕ) → quantified-lts.Need-without-requires (quantified-claims t) (quantified-at t) quantified.Post
+quantified-without-requires t c κs = search needs
 
 quantified-note-requires : (t : ℕ) → quantified-lts.Need-note-requires (quantified-claims t) (quantified-at t) quantified.Post
 quantified-note-requires t c κs =
     let solve° = c .before .before .before .before .before .before .before .before .solve in
-    let pre° = c .before .before .before .before .before .before .before .before .before .before .before .before .before .before .before .before .before .before .before .before .before .before .before .before .before .pre in
+    let pre° = c .before .before .before .before .before .before .before .before .before .before .before .before .before .before .before .before .before .before .before .before .before .before .before .before .pre in
     (solve° .ensures .1 .tables .under .fits, solve° .ensures .1 .tables .over .fits, pre° .1 .0 .2)
 
 quantified-same-length-4 : (t : ℕ) → quantified-lts.Need-same-length-4 (quantified-claims t) (quantified-at t) quantified.Post
@@ -1011,21 +1010,21 @@ quantified-same-length-5 t c = search needs
 
 quantified-returns-3 : (t : ℕ) → quantified-lts.Need-returns-3 (quantified-claims t) (quantified-at t) quantified.Post
 quantified-returns-3 t c =
-    let pre° = c .before .before .before .before .before .before .before .before .before .before .before .before .before .before .before .before .before .before .before .before .before .before .before .before .before .before .before .before .before .before .pre in
-    let range-mask° = c .before .before .before .before .before .before .before .before .before .before .before .before .before .before .before .before .before .before .range-mask in
-    let without2° = c .before .before .before .before .before .before .before .before .before .before .before .before .before .before .before .before .without2 in
+    let pre° = c .before .before .before .before .before .before .before .before .before .before .before .before .before .before .before .before .before .before .before .before .before .before .before .before .before .before .before .before .before .pre in
+    let range-mask° = c .before .before .before .before .before .before .before .before .before .before .before .before .before .before .before .before .before .range-mask in
+    let free-all° = c .before .before .before .before .before .before .before .before .before .before .before .before .before .before .before .before .free-all in
     let if1° = c .before .before .before .before .before .before .before .if1 in
     let solve° = c .before .before .before .before .before .before .before .before .before .before .before .before .before .solve in
-    let without3° = c .before .before .before .before .before .before .before .before .without3 in
+    let without° = c .before .before .before .before .before .before .before .before .without in
     let note° = c .before .before .before .before .note in
-    let e = body-met _ _ _ (pre° .1 .1 .ordered) (pre° .1 .0 .4) (range-mask° .ensures) (without2° .ensures) (rw (if1° .taken) at (solve° .ensures .0)) (without3° .ensures) in (
+    let e = body-met _ _ (pre° .1 .1 .ordered) (pre° .1 .0 .4) (range-mask° .ensures) (free-all° .ensures) (rw (if1° .taken) at (solve° .ensures .0)) (without° .ensures) in (
       rw (note° .ensures .1 .0, note° .ensures .1 .1) (record { low = pre° .1 .0 .2; explains = e }),
       (rw (note° .ensures .1 .0) (note° .ensures .1 .2), tables-trans (solve° .ensures .1) (note° .ensures .0 _ (solve° .ensures .1 .tables) (pre° .1 .0 .0) e)),
     )
 
 quantified-sub-note : (t : ℕ) → quantified-lts.Need-sub-note (quantified-claims t) (quantified-at t) quantified.Post
 quantified-sub-note t c =
-    let pre° = c .before .before .before .before .before .before .before .before .before .before .before .before .before .before .before .before .before .before .before .before .before .before .before .before .before .pre in
+    let pre° = c .before .before .before .before .before .before .before .before .before .before .before .before .before .before .before .before .before .before .before .before .before .before .before .before .pre in
     omega (arith, pre° .1 .0 .2)
 
 quantified-note-requires-2 : (t : ℕ) → quantified-lts.Need-note-requires-2 (quantified-claims t) (quantified-at t) quantified.Post
@@ -1041,14 +1040,14 @@ quantified-same-length-7 t c = search needs
 
 quantified-returns-4 : (t : ℕ) → quantified-lts.Need-returns-4 (quantified-claims t) (quantified-at t) quantified.Post
 quantified-returns-4 t c =
-    let pre° = c .before .before .before .before .before .before .before .before .before .before .before .before .before .before .before .before .before .before .before .before .before .before .before .before .before .before .before .before .before .before .pre in
-    let range-mask° = c .before .before .before .before .before .before .before .before .before .before .before .before .before .before .before .before .before .before .range-mask in
-    let without2° = c .before .before .before .before .before .before .before .before .before .before .before .before .before .before .before .before .without2 in
+    let pre° = c .before .before .before .before .before .before .before .before .before .before .before .before .before .before .before .before .before .before .before .before .before .before .before .before .before .before .before .before .before .pre in
+    let range-mask° = c .before .before .before .before .before .before .before .before .before .before .before .before .before .before .before .before .before .range-mask in
+    let free-all° = c .before .before .before .before .before .before .before .before .before .before .before .before .before .before .before .before .free-all in
     let if1° = c .before .before .before .before .before .before .before .if1 in
     let solve° = c .before .before .before .before .before .before .before .before .before .before .before .before .before .solve in
-    let without3° = c .before .before .before .before .before .before .before .before .without3 in
+    let without° = c .before .before .before .before .before .before .before .before .without in
     let note2° = c .before .before .before .before .note2 in
-    let e = body-missed _ _ _ (pre° .1 .1 .ordered) (pre° .1 .0 .4) (range-mask° .ensures) (without2° .ensures) (pre° .1 .0 .2) (rw (if1° .left) at (solve° .ensures .0)) (without3° .ensures) in (
+    let e = body-missed _ _ (pre° .1 .1 .ordered) (pre° .1 .0 .4) (range-mask° .ensures) (free-all° .ensures) (pre° .1 .0 .2) (rw (if1° .left) at (solve° .ensures .0)) (without° .ensures) in (
       rw (note2° .ensures .1 .0, note2° .ensures .1 .1) (record { low = omega arith; explains = e }),
       (rw (note2° .ensures .1 .0) (note2° .ensures .1 .2), tables-trans (solve° .ensures .1) (note2° .ensures .0 _ (solve° .ensures .1 .tables) (pre° .1 .0 .0) e)),
     )
@@ -1225,10 +1224,9 @@ pub +branch+candidate+check+evaluate+extend+gate+quantified+solve-spec : {M : Ty
     (quantified-returns-2 t)
     (quantified-enum-told-2 t)
     (quantified-range-mask-requires t)
-    (quantified-without-requires t)
-    (quantified-without-requires-2 t)
+    (quantified-free-all-requires t)
     (quantified-solve-requires t)
-    (quantified-without-requires-3 t)
+    (quantified-without-requires t)
     (quantified-note-requires t)
     (quantified-same-length-4 t)
     (quantified-same-length-5 t)
