@@ -6,12 +6,13 @@ use mathlib.Core.List.{List, [], _++_}
 use lib.ListN.{length, getD, drop, length-append, length-drop}
 use lib.Dec.{eqb}
 use Rattle.words.specs.Logic.{by-bool, tests}
+use Rattle.words.specs.Bytes.{bytesOf}
 use Rattle.sheet.specs.Cause.{Refusal, first-none}
 use Rattle.sheet.specs.Check.{Checks}
 use Rattle.records.specs.Table.{kept-grown, grown-refl, grown-trans}
 use Rattle.solver.specs.Contract.{TablesGrown}
 use Rattle.session.specs.declared.Session.{Session}
-use Rattle.session.specs.Model.{Answer, answerLength, bytesOf, answerBytes, lines, lineAt, line, answerAt, answersTo, answers}
+use Rattle.session.specs.Model.{Answer, answerLength, answerBytes, lines, lineAt, line, answerAt, answersTo, answers}
 use Rattle.session.specs.Script.{after-none, after-next, answers-none, answers-next, length-answersTo}
 use Rattle.session.specs.Sound.{standingOf, Checked, Sound, Empty, empty-standing, empty-sound}
 use Rattle.session.specs.Step.{Tells, Step}
