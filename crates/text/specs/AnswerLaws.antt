@@ -5,7 +5,7 @@ use native.Mathlib.Nat.{add-suc}
 use mathlib.Core.List.{List, [], _∷_}
 use mathlib.Core.Path.{_≡_, refl, ap, _∙_}
 use lib.ListN.{length, getD, take, drop, length-append, length-drop}
-use lib.Seq.{sets, drop-cons, drop-drop}
+use lib.Seq.{sets, drop-cons, drop-drop, take-at, drop-append-add}
 use Rattle.words.specs.Bytes.{bytesOf}
 use Rattle.text.specs.Hex.{hexLine, hexLines}
 use Rattle.text.specs.Stores.{sets-append}
@@ -48,7 +48,26 @@ answers-length (suc n) l h =
     length-append (hexLine (take answerSize l)) (answerLines n (drop answerSize l))
     ∙ omega (arith, six-line l 0 (omega arith), answers-length n (drop answerSize l) (omega (arith, length-drop answerSize l)))
 
+-- line i is that of answer i
+pub line-at : (i n : ℕ) (l : List ℕ) → i < n → n * answerSize ≤ length l
+    → take answerLineSize (drop (answerLineSize * i) (answerLines n l)) ≡ hexLine (take answerSize (drop (answerSize * i) l))
+unfolding hexLines
+line-at i zero l h w = absurd (omega arith)
+line-at zero (suc n) l h w = take-at (hexLine (take answerSize l)) _ answerLineSize (six-line l 0 (omega arith))
+line-at (suc i) (suc n) l h w =
+    let x = hexLine (take answerSize l) in
+    let e : answerLineSize * suc i ≡ length x + answerLineSize * i = omega (arith, six-line l 0 (omega arith)) in
+    let s : answerSize + answerSize * i ≡ answerSize * suc i = omega arith in
+    ap (λ (k : ℕ). take answerLineSize (drop k (answerLines (suc n) l))) e
+    ∙ ap (take answerLineSize) (drop-append-add x (answerLines n (drop answerSize l)) (answerLineSize * i))
+    ∙ line-at i n (drop answerSize l) (omega arith) (omega (arith, length-drop answerSize l))
+    ∙ ap (λ (m : List ℕ). hexLine (take answerSize m)) (drop-drop (answerSize * i) answerSize l ∙ ap (λ (k : ℕ). drop k l) s)
+
 -- the lines of a single answer's bytes are its line
 pub one-answer : (number v word : ℕ) → answerLines 1 (number ∷ v ∷ bytesOf 4 word) ≡ answerLine number v word
 unfolding hexLine hexLines answerLine bytesOf
 one-answer number v word = refl
+
+pub line-length : (number v word : ℕ) → length (answerLine number v word) ≡ answerLineSize
+unfolding answerLine hexLine bytesOf
+line-length number v word = refl
