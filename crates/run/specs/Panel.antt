@@ -3,11 +3,12 @@ use Prim.Native.Nat.{ℕ, _*_}
 use mathlib.Core.Bool.{cond}
 use mathlib.Core.List.{List, [], _∷_, flatMap}
 use lib.Dec.{eqb}
+use Rattle.words.specs.Bytes.{bytesOf}
 use Rattle.formula.specs.Formula.{Formula}
 use Rattle.sheet.specs.Cause.{Refusal}
 use Rattle.sheet.specs.Rules.{variables}
 use Rattle.solver.specs.Contract.{root}
-use Rattle.session.specs.Model.{Meaning, meaning, bytesOf, answerLength, lines, answers}
+use Rattle.session.specs.Model.{Meaning, meaning, answerLength, lines, answers}
 use Rattle.run.specs.Run.{refusal}
 
 -- ---- bytes as document 01 writes them

@@ -5,6 +5,7 @@ use mathlib.Core.Bool.{_&&_}
 use mathlib.Core.List.{map, flatMap}
 use lib.Dec.{ltb}
 use Rattle.words.specs.Word.{bit}
+use Rattle.words.specs.Bytes.{bytesOf}
 use Rattle.words.specs.Mask.{without, inside, maskOf}
 use Rattle.formula.specs.Assignment.{assign, within, join}
 use Rattle.formula.specs.Formula.{Formula, free}
@@ -42,7 +43,7 @@ abbrev expected : Case → Outcome
 expected c = c .expected
 
 computed : map outcomeOver panel ≡ map expected panel
-unfolding panel outcomeOver outcomeBy flatMap Model.bytesOf
+unfolding panel outcomeOver outcomeBy flatMap bytesOf
     first lengthCauses scriptCauses roomCauses frameCauses causesBelow byteCauses
     someBelow used spareSet names someLate badRange badVariables binds boundBefore meet
     kindOf kind build tree formulaOf free within

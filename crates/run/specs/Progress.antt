@@ -4,10 +4,11 @@ use native.Mathlib.Omega.{arith}
 use mathlib.Core.Path.{_≡_, refl, sym, ap, _∙_}
 use mathlib.Core.List.{List, [], _++_}
 use lib.ListN.{length, getD, drop, length-append, length-drop}
+use Rattle.words.specs.Bytes.{bytesOf}
 use Rattle.sheet.specs.Cause.{Refusal, first-none}
 use Rattle.sheet.specs.Check.{Checks}
 use Rattle.session.specs.declared.Session.{Session}
-use Rattle.session.specs.Model.{Answer, answerLength, bytesOf, answerBytes, lines, lineAt, line, answerAt, answersTo, answers}
+use Rattle.session.specs.Model.{Answer, answerLength, answerBytes, lines, lineAt, line, answerAt, answersTo, answers}
 use Rattle.session.specs.Script.{after-none, after-next, answers-none, answers-next, length-answersTo}
 use Rattle.session.specs.Sound.{standingOf, Checked, Sound, Empty, empty-standing, empty-sound}
 use Rattle.session.specs.Step.{Tells, Untouched, Step}

@@ -1,11 +1,12 @@
 -- The reference model (document 01's plain book): what each line of a script answers, and which entries stand after it. It is fed what a formula means
 -- and the script's bytes, and nothing from the run. Assumes nothing.
-use Prim.Native.Nat.{ℕ, zero, suc, _+_, _-_, _*_, _/_, _%_, _^_}
+use Prim.Native.Nat.{ℕ, zero, suc, _+_, _-_, _*_, _/_, _^_}
 use mathlib.Core.Bool.{Bool, false, not, cond, _&&_, _||_}
 use mathlib.Core.List.{List, [], _∷_, _++_}
 use lib.ListN.{length, getD, take}
 use lib.Dec.{eqb, leb, ltb}
 use lib.Bits.{bitOr}
+use Rattle.words.specs.Bytes.{bytesOf}
 use Rattle.formula.specs.Formula.{Formula, free}
 use Rattle.formula.specs.Ask.{Verdict, ask}
 use Rattle.formula.specs.Why.{why}
@@ -57,11 +58,6 @@ pub record Answer : Type 0 where
   pub number : ℕ
   pub v : ℕ
   pub word : ℕ
-
--- the k bytes of a number, highest first
-unfoldable pub bytesOf : ℕ → ℕ → List ℕ
-bytesOf zero x = []
-bytesOf (suc k) x = x / 2 ^ (8 * k) % 256 ∷ bytesOf k x
 
 abbrev pub wordLength : ℕ
 wordLength = 4

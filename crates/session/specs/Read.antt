@@ -8,9 +8,10 @@ use mathlib.Core.List.{List, [], _∷_}
 use lib.ListN.{length, getD, take}
 use lib.Dec.{eqb, ltb}
 use Rattle.words.specs.Logic.{by-bool, clash, and-both, and-intro, tests}
+use Rattle.words.specs.Bytes.{bytesOf}
 use Rattle.sheet.specs.Refusal as Number
 use Rattle.session.specs.declared.Entry.{Entry}
-use Rattle.session.specs.Model.{Meaning, bytesOf, answerBytes, Reply, told, refused, READ, line, lineAt, after, answerAt, answersTo}
+use Rattle.session.specs.Model.{Meaning, answerBytes, Reply, told, refused, READ, line, lineAt, after, answerAt, answersTo}
 use Rattle.session.specs.Entries.{Entered, entryAt}
 use Rattle.session.specs.Kinds.{read-line}
 use Rattle.session.specs.Refused.{read-past}

@@ -7,19 +7,17 @@ use mathlib.Core.Path.{_≡_, refl, sym, ap, _∙_}
 use mathlib.Core.List.{List, [], _∷_, _++_, append-assoc, append-nil}
 use lib.ListN.{length, getD, take, drop, length-append, List·getD-append}
 use lib.Seq.{getD-append-add, take-at, drop-at}
+use Rattle.words.specs.Bytes.{bytesOf, four-bytes}
 use Rattle.session.specs.declared.Entry.{Entry}
-use Rattle.session.specs.Model.{Meaning, Answer, answerLength, bytesOf, answerBytes, Reply, lines, lineAt, after, answerAt, answersTo, answers, standing}
+use Rattle.session.specs.Model.{Meaning, Answer, answerLength, answerBytes, Reply, lines, lineAt, after, answerAt, answersTo, answers, standing}
 use Rattle.session.specs.Entries.{Entered, none-entered}
 use Rattle.session.specs.Invariant.{line-keeps}
 
 -- an answer's six bytes
 pub answerBytes-are : (a : Answer)
     → answerBytes a ≡ a .number ∷ a .v ∷ a .word / 2 ^ 24 % 256 ∷ a .word / 2 ^ 16 % 256 ∷ a .word / 2 ^ 8 % 256 ∷ a .word % 256 ∷ []
-unfolding answerBytes bytesOf
-answerBytes-are a =
-    let w = a .word in
-    let one : w / 2 ^ 0 ≡ w = omega arith in
-    ap (λ (x : ℕ). a .number ∷ a .v ∷ w / 2 ^ 24 % 256 ∷ w / 2 ^ 16 % 256 ∷ w / 2 ^ 8 % 256 ∷ x % 256 ∷ []) one
+unfolding answerBytes
+answerBytes-are a = ap (λ (l : List ℕ). a .number ∷ a .v ∷ l) (four-bytes (a .word))
 
 pub length-answerBytes : (a : Answer) → length (answerBytes a) ≡ answerLength
 unfolding answerBytes bytesOf

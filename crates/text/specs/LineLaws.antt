@@ -3,24 +3,17 @@ use Prim.Native.Nat.{ℕ, zero, suc, _+_, _*_, _≤_, _<_}
 use native.Mathlib.Omega.{arith}
 use native.Mathlib.Nat.{add-zero}
 use native.Mathlib.Numerals.{add-one}
-use mathlib.Core.Bool.{Bool, true, false, _&&_}
+use mathlib.Core.Bool.{true, false, _&&_}
 use mathlib.Core.List.{List, [], _∷_}
 use mathlib.Core.Path.{_≡_, refl, sym, ap, _∙_}
 use lib.Dec.{eqb, ltb}
 use lib.ListN.{length, getD, set, drop, length-append, length-drop}
 use lib.Seq.{sets, getD-drop, drop-drop}
 use borrow.Author.Tests.{ltb-true, ltb-false, lt-ltb, le-ltb}
+use Rattle.words.specs.Logic.{by-bool, and-both}
 use Rattle.text.specs.Stores.{sets-append}
 use Rattle.text.specs.Hex.{digitValue, lineFeed}
 use Rattle.text.specs.Line.{head, ending, digits, lineDigits, frameBytes, lineSize, byteHere, bytes, TwoDigits, Lines, noLines, lineThen, lines}
-
-pub by-bool {ℓ} : {A : Type ℓ} (t : Bool) → (t ≡ true → A) → (t ≡ false → A) → A
-by-bool true f g = f refl
-by-bool false f g = g refl
-
-and-both : (a b : Bool) → a && b ≡ true → (a ≡ true) × (b ≡ true)
-and-both true b e = (refl, e)
-and-both false b e = let z : _≡_ {A = ℕ} 0 1 = cc in absurd (omega arith)
 
 pub head-drop : (at : ℕ) (l : List ℕ) → head (drop at l) ≡ getD l at 0
 head-drop at l = getD-drop at l 0 0 ∙ ap (λ (k : ℕ). getD l k 0) (add-zero at)

@@ -10,9 +10,9 @@ use lib.Dec.{eqb, ltb}
 use lib.ListN.{length, take, drop}
 use lib.Seq.{getD-take, take-nil}
 use borrow.Author.Tests.{lt-ltb}
+use Rattle.words.specs.Logic.{by-bool}
 use Rattle.text.specs.Hex.{lineFeed}
 use Rattle.text.specs.Line.{head, ending, digits, lineDigits, frameBytes, lineSize, bytes, lines}
-use Rattle.text.specs.LineLaws.{by-bool}
 use Rattle.text.specs.Reading.{sheetFrames, scriptFrames, readSheet, reading}
 
 -- ---- one line

@@ -1,12 +1,14 @@
 -- What a text reads to, by the tests on its lines: the laws that the code goes by. Assumes nothing.
 use Prim.Native.Nat.{ℕ, suc, _+_, _-_, _*_, _≤_, _<_}
 use native.Mathlib.Omega.{arith}
-use mathlib.Core.Bool.{or-true}
-use mathlib.Core.List.{List}
-use mathlib.Core.Path.{_≡_, sym, ap, ap₂, _∙_}
+use mathlib.Core.Bool.{false, or-true}
+use mathlib.Core.List.{List, []}
+use mathlib.Core.Path.{_≡_, refl, sym, ap, ap₂, _∙_}
+use lib.Dec.{eqb, ltb}
 use lib.ListN.{length, drop, length-drop}
 use lib.Seq.{sets}
-use borrow.Author.Tests.{lt-ltb, le-ltb, ne-eqb}
+use borrow.Author.Tests.{lt-ltb, le-ltb, ltb-false, ne-eqb}
+use Rattle.words.specs.Logic.{by-bool}
 use Rattle.text.specs.Line.{Lines, lines, ending, frameBytes, LinesAt}
 use Rattle.text.specs.LineLaws.{drop-more, lines-count, frames-length}
 use Rattle.text.specs.Reading.{sheetFrames, scriptFrames, malformed, longSheet, longScript, noRoom, refused, accepted, readScript, reading, readInto, Parts, Scanned, Read}
@@ -56,6 +58,32 @@ module _ (text : List ℕ) (a : Counted) (p : LinesAt text 0 (suc sheetFrames) a
           script-most = s;
           within = w;
         }
+
+-- ---- what is read is of whole frames, and no more of them than there may be
+
+-- n frames at most
+pub record Framed (n : ℕ) (l : List ℕ) : Type 0 where
+  pub count : ℕ
+  pub whole : length l ≡ count * frameBytes
+  pub most : count ≤ n
+
+no-frames : (n : ℕ) → Framed n []
+no-frames n = record { count = 0; whole = refl; most = omega arith }
+
+frames-of : (n most : ℕ) (l : List ℕ) → ltb n (lines most l .count) ≡ false → Framed n (lines most l .frames)
+frames-of n most l e = record { count = lines most l .count; whole = frames-length most l; most = ltb-false n (lines most l .count) e }
+
+pub script-framed : (text : List ℕ) → Framed scriptFrames (reading text .script)
+unfolding reading
+script-framed text =
+    let a = lines (suc sheetFrames) text in
+    let rest = drop (ending (a .rest)) (a .rest) in
+    let b = lines (suc scriptFrames) rest in
+    by-bool (ltb sheetFrames (a .count)) (λ t. rw t (no-frames scriptFrames))
+    (λ f. by-bool (eqb (ending (a .rest)) 0) (λ t. rw (f, t) (no-frames scriptFrames))
+    (λ g. by-bool (ltb scriptFrames (b .count)) (λ t. rw (f, g, t) (no-frames scriptFrames))
+    (λ h. by-bool (ltb 0 (length (b .rest))) (λ t. rw (f, g, h, t) (no-frames scriptFrames))
+    (λ k. rw (f, g, h, k) (frames-of scriptFrames (suc scriptFrames) rest h)))))
 
 -- ---- with the buffers' lengths
 

@@ -10,9 +10,10 @@ use lib.Dec.{ltb}
 use lib.ListN.{length, getD, take, drop, take-append-drop, length-take, length-drop, List·getD-eq-default}
 use lib.Seq.{getD-take, getD-drop, drop-drop, length-take-le}
 use borrow.Author.Tests.{lt-ltb, le-ltb, le-leb, lt-leb, ltb-true, ltb-false}
+use Rattle.words.specs.Logic.{by-bool}
 use Rattle.text.specs.Hex.{digitValue, digitByte, lineFeed, hexLine, hexLines}
 use Rattle.text.specs.Line.{ending, digits, lineDigits, frameBytes, lineSize, byteHere, bytes, Lines, lines}
-use Rattle.text.specs.LineLaws.{by-bool, lines-none, lines-stop, lines-more}
+use Rattle.text.specs.LineLaws.{lines-none, lines-stop, lines-more}
 use Rattle.text.specs.Reading.{sheetFrames, scriptFrames, malformed, longSheet, longScript, refused, readSheet, readScript, reading}
 
 -- the numbers of a list are bytes

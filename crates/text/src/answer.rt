@@ -5,7 +5,7 @@ ghost use Prim.Native.Nat.{_+_, _*_, _%_, _≤_, min};
 ghost use lib.ListN.{length, take, drop};
 ghost use lib.Seq.{sets};
 ghost use Rattle.text.specs.Hex.{hexLine};
-ghost use Rattle.text.specs.Answer.{answerLines, answerBytes, answerLineBytes};
+ghost use Rattle.text.specs.Answer.{answerLines, answerSize, answerLineSize};
 use crate::hex::high_digit;
 use crate::hex::low_digit;
 
@@ -67,8 +67,8 @@ fn put(bytes: &[u8], out: &mut [u8], place: usize)
 
 // Writes the line of the answer at a place of the answers.
 fn put_line(answers: &[u8], at: usize, out: &mut [u8], to: usize)
-    requires { ⌜ (at + answerBytes ≤ length (now answers)) × (to + answerLineBytes ≤ length (now out)) ⌝ }
-    ensures { λ _. ⌜ now (out .exit) ≡ sets (now (out .entry)) to (hexLine (take answerBytes (drop at (now (answers .entry))))) ⌝ }
+    requires { ⌜ (at + answerSize ≤ length (now answers)) × (to + answerLineSize ≤ length (now out)) ⌝ }
+    ensures { λ _. ⌜ now (out .exit) ≡ sets (now (out .entry)) to (hexLine (take answerSize (drop at (now (answers .entry))))) ⌝ }
 {
     let line = hex_line(
         answers[at],
@@ -83,7 +83,7 @@ fn put_line(answers: &[u8], at: usize, out: &mut [u8], to: usize)
 
 // Writes the lines of the first `n` answers.
 pub fn put_lines(answers: &[u8], n: usize, out: &mut [u8])
-    requires { ⌜ (n * answerBytes ≤ length (now answers)) × (n * answerLineBytes ≤ length (now out)) ⌝ }
+    requires { ⌜ (n * answerSize ≤ length (now answers)) × (n * answerLineSize ≤ length (now out)) ⌝ }
     ensures { λ _. ⌜ now (out .exit) ≡ sets (now (out .entry)) 0 (answerLines n (now (answers .entry))) ⌝ }
 {
     let mut i: usize = 0;

@@ -19,9 +19,14 @@ pub struct Parsed {
 }
 
 // The least lengths of the buffers.
-const SHEET_BYTES: usize = layout::SHEET_FRAMES * frame::BYTES;
+pub const SHEET_BYTES: usize = layout::SHEET_FRAMES * frame::BYTES;
 
-const SCRIPT_BYTES: usize = layout::SCRIPT_FRAMES * frame::BYTES;
+pub const SCRIPT_BYTES: usize = layout::SCRIPT_FRAMES * frame::BYTES;
+
+// The bytes of an answer, and of its line.
+pub const ANSWER_BYTES: usize = answer::BYTES;
+
+pub const LINE_BYTES: usize = answer::LINE_BYTES;
 
 // A refusal: nothing is written.
 fn refused(number: u8) -> Parsed

@@ -1,3 +1,4 @@
 pub mod Logic
 pub mod Word
 pub mod Mask
+pub mod Bytes

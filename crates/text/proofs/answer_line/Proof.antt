@@ -1,6 +1,7 @@
 -- `text::answer_line` meets its contract: it is the line of the number, V and the word's four bytes. Assumes nothing.
 use borrow.Author.Needs.{needs}
 use mathlib.Core.Path.{_∙_}
+use Rattle.words.specs.Bytes.{four-bytes}
 use Rattle.text.specs.Answer.{answerLine}
 use Rattle.text.proofs.answer_line.Statement.{statement}
 use Rattle.text.proofs.answer_line.Tie as tie
@@ -24,7 +25,7 @@ returns : tie.Need-returns
 unfolding answerLine
 returns c =
     c .hex-line .ensures
-    ∙ rw (c .before .low-byte4 .ensures, c .before .before .low-byte3 .ensures, c .before .before .before .low-byte2 .ensures, c .before .before .before .before .low-byte .ensures)
+    ∙ rw (four-bytes, c .before .low-byte4 .ensures, c .before .before .low-byte3 .ensures, c .before .before .before .low-byte2 .ensures, c .before .before .before .before .low-byte .ensures)
 
 pub answer-line-spec : {M : Type 1} → statement M
 answer-line-spec =

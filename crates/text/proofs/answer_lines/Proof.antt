@@ -6,7 +6,7 @@ use Prim.Native.Nat.{_/_}
 use native.Mathlib.Nat.{min-le-left, min-le-right}
 use mathlib.Core.Path.{_≡_, _∙_}
 use lib.ListN.{length}
-use Rattle.text.specs.Answer.{answerBytes, answerLineBytes, answerLines}
+use Rattle.text.specs.Answer.{answerSize, answerLineSize, answerLines}
 use Rattle.text.specs.Stores.{sets-start}
 use Rattle.text.specs.AnswerLaws.{answers-length}
 use Rattle.text.proofs.answer_lines.Statement.{statement}
@@ -18,14 +18,14 @@ lesser-requires c κs = search needs
 put-lines-requires : tie.Need-put-lines-requires
 put-lines-requires c κs =
     let a = c .before .before .before .before .args in
-    let x = length (a .answers .now) / answerBytes in
-    let y = length (a .out .now) / answerLineBytes in
+    let x = length (a .answers .now) / answerSize in
+    let y = length (a .out .now) / answerLineSize in
     (omega (arith, c .before .lesser .ensures, min-le-left x y), omega (arith, c .before .lesser .ensures, min-le-right x y))
 
 mul-result : tie.Need-mul-result
 mul-result c =
     let a = c .before .before .before .before .before .before .before .args in
-    omega (arith, c .before .before .before .before .lesser .ensures, min-le-right (length (a .answers .now) / answerBytes) (length (a .out .now) / answerLineBytes), c .before .before .before .before .before .before .before .good)
+    omega (arith, c .before .before .before .before .lesser .ensures, min-le-right (length (a .answers .now) / answerSize) (length (a .out .now) / answerLineSize), c .before .before .before .before .before .before .before .good)
 
 same-length : tie.Need-same-length
 same-length c = search needs
@@ -35,9 +35,9 @@ returns c =
     let a = c .before .before .before .before .before .before .before .args in
     let n = c .before .before .before .before .lesser .result in
     let e = c .before .before .before .before .lesser .ensures in
-    let x = length (a .answers .now) / answerBytes in
-    let y = length (a .out .now) / answerLineBytes in
-    let h : length (answerLines n (a .answers .now)) ≡ n * answerLineBytes = answers-length n (a .answers .now) (omega (arith, e, min-le-left x y)) in
+    let x = length (a .answers .now) / answerSize in
+    let y = length (a .out .now) / answerLineSize in
+    let h : length (answerLines n (a .answers .now)) ≡ n * answerLineSize = answers-length n (a .answers .now) (omega (arith, e, min-le-left x y)) in
     record {
       count = omega (arith, e);
       bytes =

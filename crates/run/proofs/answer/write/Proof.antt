@@ -2,7 +2,8 @@
 use borrow.Author.Needs.{needs}
 use native.Mathlib.Omega.{arith}
 use lib.ListN.{length-set}
-use Rattle.session.specs.Model.{bytesOf, answerBytes}
+use Rattle.words.specs.Bytes.{bytesOf}
+use Rattle.session.specs.Model.{answerBytes}
 use Rattle.run.specs.Written.{six-written}
 use Rattle.run.proofs.answer.write.Statement.{statement}
 use Rattle.run.proofs.answer.write.Tie as tie

@@ -6,14 +6,14 @@ use native.Mathlib.Numerals.{unary-clauses}
 use mathlib.Core.Path.{_≡_, refl, sym, ap, _∙_}
 use lib.ListN.{length, drop}
 use lib.Seq.{sets, length-sets}
-use Rattle.text.specs.Answer.{answerLines, answerBytes, answerLineBytes}
+use Rattle.text.specs.Answer.{answerLines, answerSize, answerLineSize}
 use Rattle.text.specs.AnswerLaws.{answers-none, answers-put}
 use Rattle.text.proofs.answer.put_lines.Statement.{statement}
 use Rattle.text.proofs.answer.put_lines.Tie as tie
 
 abbrev Inv-loop : tie.InvT-loop
 Inv-loop answers n out₀ i₀ at₀ to₀ out i at to =
-    (i ≤ n) × (at ≡ i * answerBytes) × (to ≡ i * answerLineBytes) × (length out ≡ length out₀)
+    (i ≤ n) × (at ≡ i * answerSize) × (to ≡ i * answerLineSize) × (length out ≡ length out₀)
     × (sets out₀ 0 (answerLines n answers) ≡ sets out to (answerLines (n - i) (drop at answers)))
 
 abbrev μ-loop : tie.MeasureT-loop
@@ -46,7 +46,7 @@ loop-again c =
     let t = c .before .before .before .before .loop-test .taken in
     let e : a .n - l .i ≡ suc (a .n - (l .i + 1)) = omega (arith, t) in
     let p = c .before .before .put-line .ensures in
-    let h : l .at + answerBytes ≤ length (a .answers .now) = omega (arith, t, l .inv, c .before .before .before .before .before .before .before .before .pre) in (
+    let h : l .at + answerSize ≤ length (a .answers .now) = omega (arith, t, l .inv, c .before .before .before .before .before .before .before .before .pre) in (
       omega (arith, t),
       omega (arith, l .inv),
       omega (arith, l .inv),

@@ -1,0 +1,67 @@
+-- `response::respond` meets its contract: the parts that are handed on hold the bytes that were read. Assumes nothing.
+use borrow.Author.Needs.{needs}
+use native.Mathlib.Omega.{arith}
+use Rattle.response.specs.PrintedLaws.{prints-same, text-refused, sheet-start, script-start, text-read}
+use Rattle.response.proofs.respond.Statement.{statement}
+use Rattle.response.proofs.respond.Tie as tie
+
+slice-aggregate-read : tie.Need-slice-aggregate-read
+slice-aggregate-read c = search needs
+
+slice-aggregate-read-2 : tie.Need-slice-aggregate-read-2
+slice-aggregate-read-2 c = search needs
+
+read-requires : tie.Need-read-requires
+read-requires c κs = search needs
+
+print-refusal-requires : tie.Need-print-refusal-requires
+print-refusal-requires c κs = search needs
+
+same-length : tie.Need-same-length
+same-length c = search needs
+
+returns : tie.Need-returns
+returns c =
+    let g = c .before .before .before .before .before .before .before .before .read .ensures in
+    prints-same (text-refused g (omega arith) (omega arith) (c .before .before .before .before .if1 .taken)) (c .before .before .print-refusal .ensures)
+
+array-share-prefix-sheet : tie.Need-array-share-prefix-sheet
+array-share-prefix-sheet c = search needs
+
+slice-aggregate-print-run : tie.Need-slice-aggregate-print-run
+slice-aggregate-print-run c = sheet-start (c .before .before .before .before .before .read .ensures) (omega arith) (omega arith) .counted
+
+array-share-prefix-script : tie.Need-array-share-prefix-script
+array-share-prefix-script c = search needs
+
+slice-aggregate-print-run-2 : tie.Need-slice-aggregate-print-run-2
+slice-aggregate-print-run-2 c = script-start (c .before .before .before .before .before .before .read .ensures) (omega arith) (omega arith) .counted
+
+print-run-requires : tie.Need-print-run-requires
+print-run-requires c κs = search needs
+
+same-length-2 : tie.Need-same-length-2
+same-length-2 c = search needs
+
+returns-2 : tie.Need-returns-2
+returns-2 c =
+    let g = c .before .before .before .before .before .before .before .before .before .before .read .ensures in
+    prints-same (text-read g (omega arith) (omega arith) (c .before .before .before .before .before .before .if1 .left)) (c .before .before .print-run .ensures)
+
+pub respond-spec : {M : Type 1} → statement M
+respond-spec =
+    tie.close
+    (tie.spec
+    slice-aggregate-read
+    slice-aggregate-read-2
+    read-requires
+    print-refusal-requires
+    same-length
+    returns
+    array-share-prefix-sheet
+    slice-aggregate-print-run
+    array-share-prefix-script
+    slice-aggregate-print-run-2
+    print-run-requires
+    same-length-2
+    returns-2)
