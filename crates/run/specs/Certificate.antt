@@ -18,7 +18,7 @@ use Rattle.session.specs.Kinds.{ask-taken, why-taken}
 use Rattle.session.specs.Script.{after-next, length-answersTo, answer-bytes}
 use Rattle.session.specs.Step.{searches}
 use Rattle.run.specs.Run.{refusal, causes, book, before, kindAt, Taken, Asked, Held, asLent, Grows, Promised-at}
-use Rattle.run.specs.History.{True, lent-true, promised-grows, history-true, history-grows}
+use Rattle.run.specs.History.{RecordsTrue, lent-true, promised-grows, history-true, history-grows}
 use Rattle.run.specs.Call.{Call, Meets}
 use Rattle.run.specs.Accept.{Proper, number-proper, proper-accepted, refused-foremost}
 use Rattle.run.specs.Before.{before-entered}
@@ -121,7 +121,7 @@ module _ (sheet script : List ℕ) (o : Call) (R : Meets sheet script o) where
     records-left = R .recorded accepted .ends
 
     -- At every moment each counted record is true of its frame: under records of one that is true, over records of one that is false.
-    pub always-true : (i : ℕ) → i ≤ lines script → True sheet (records i)
+    pub always-true : (i : ℕ) → i ≤ lines script → RecordsTrue sheet (records i)
     always-true = history-true (R .recorded accepted) (lent-true sheet (o .under) (o .over))
 
     pub records-true : Tables sheet (o .under') (o .cu) (o .over') (o .co)

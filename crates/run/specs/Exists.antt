@@ -24,7 +24,7 @@ use Rattle.solver.specs.Contract.{last, root}
 use Rattle.session.specs.Model.{enteredMask, enteredValues, answerLength, ASK, lines, answerAt, answers}
 use Rattle.session.specs.Step.{searches}
 use Rattle.run.specs.Run.{refusal, book, before, kindAt, Held, asLent, Grows, Promised-at, LineRecords, History}
-use Rattle.run.specs.History.{True, lent-true, grows-none, history-none, history-next, history-true}
+use Rattle.run.specs.History.{RecordsTrue, lent-true, grows-none, history-none, history-next, history-true}
 use Rattle.run.specs.Call.{Call, Lent, Meets}
 use Rattle.run.specs.Accept.{number-proper}
 use Rattle.run.specs.Before.{before-entered, book-entries}
@@ -86,7 +86,7 @@ module _ (sheet script : List ℕ) (K : Keeps sheet) (i : ℕ) where
   abbrev asks : Bool
   asks = eqb (kindAt script i) ASK && eqb (answerAt (book sheet) [] script i .number) 0
 
-  module _ (h : Held) (t : True sheet h) where
+  module _ (h : Held) (t : RecordsTrue sheet h) where
     -- records that grew by the one that the verdict calls for
     asked-next : asks ≡ true → (h' : Held) → Grows sheet h h' → Promised-at sheet script i h' → Next h
     asked-next e h' g p =
@@ -143,7 +143,7 @@ record Filled (sheet script under over : List ℕ) (n : ℕ) : Type 0 where
   history : History sheet script n (asLent under over) exit
 
 module _ (sheet script under over : List ℕ) (K : Keeps sheet) where
-  filled-true : {n : ℕ} (F : Filled sheet script under over n) → True sheet (F .exit)
+  filled-true : {n : ℕ} (F : Filled sheet script under over n) → RecordsTrue sheet (F .exit)
   filled-true {n} F = rw (F .history .ends) at (history-true (F .history) (lent-true sheet under over) n (omega arith))
 
   filled-next : (n : ℕ) (F : Filled sheet script under over n) → Next sheet script K n (F .exit) → Filled sheet script under over (n + 1)

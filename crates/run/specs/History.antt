@@ -14,15 +14,15 @@ use Rattle.solver.specs.Contract.{Tables}
 use Rattle.run.specs.Run.{Held, asLent, Grows, Asked, Promised-at, LineRecords, History}
 
 -- every counted record is true
-abbrev pub True : List ℕ → Held → Type 0
-True sheet h = Tables sheet (h .under) (h .cu) (h .over) (h .co)
+abbrev pub RecordsTrue : List ℕ → Held → Type 0
+RecordsTrue sheet h = Tables sheet (h .under) (h .cu) (h .over) (h .co)
 
 -- ---- tables that grow
 
-pub lent-true : (sheet under over : List ℕ) → True sheet (asLent under over)
+pub lent-true : (sheet under over : List ℕ) → RecordsTrue sheet (asLent under over)
 lent-true sheet under over = record { under = valid-empty (formula sheet) (frames sheet) true under; over = valid-empty (formula sheet) (frames sheet) false over }
 
-pub grows-none : {sheet : List ℕ} (h : Held) → True sheet h → Grows sheet h h
+pub grows-none : {sheet : List ℕ} (h : Held) → RecordsTrue sheet h → Grows sheet h h
 grows-none h t = record { tables = t; under = grown-refl (h .under) (h .cu); over = grown-refl (h .over) (h .co) }
 
 pub grows-trans : {sheet : List ℕ} {h h₁ h₂ : Held} → Grows sheet h h₁ → Grows sheet h₁ h₂ → Grows sheet h h₂
@@ -59,8 +59,8 @@ module _ {sheet script : List ℕ} {n : ℕ} {h h₁ h₂ : Held} (H : History s
 
 -- ---- from one line to a later one
 
-module _ {sheet script : List ℕ} {n : ℕ} {h h' : Held} (H : History sheet script n h h') (t : True sheet h) where
-  pub history-true : (i : ℕ) → i ≤ n → True sheet (H .records i)
+module _ {sheet script : List ℕ} {n : ℕ} {h h' : Held} (H : History sheet script n h h') (t : RecordsTrue sheet h) where
+  pub history-true : (i : ℕ) → i ≤ n → RecordsTrue sheet (H .records i)
   history-true zero l = rw (H .starts) t
   history-true (suc i) l = rw (add-one i) at (H .each i (omega arith) .grows .tables)
 
