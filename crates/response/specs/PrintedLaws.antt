@@ -7,7 +7,7 @@ use mathlib.Core.List.{List, [], _∷_, _++_}
 use mathlib.Core.Path.{_≡_, refl, sym, ap, ap₂, _∙_}
 use lib.Dec.{eqb, ltb}
 use lib.ListN.{length, take, drop, length-append}
-use lib.Seq.{take-at}
+use lib.Seq.{take-at, length-take-le}
 use borrow.Author.Tests.{eq-eqb, ne-eqb, le-ltb}
 use Rattle.words.specs.Logic.{by-bool, or-right, or-left, tests}
 use Rattle.words.specs.Bytes.{bytesOf}
@@ -57,12 +57,17 @@ refusal-line number place = one-answer number place 0
 pub prints-same : {a b out out′ : List ℕ} {r : ℕ} → a ≡ b → Prints a out r out′ → Prints b out r out′
 prints-same e p = rw e at p
 
--- ---- the part of a buffer that was written
+-- ---- a part of a buffer
 
+-- it has as many bytes as its end says
+pub counted : (n : ℕ) (buffer : List ℕ) → n ≤ length buffer → n ≡ length (take n buffer)
+counted n buffer h = sym (length-take-le n buffer h)
+
+-- what was written from its start
 pub starts : (x behind : List ℕ) {buffer : List ℕ} {n : ℕ} → buffer ≡ x ++ behind → n ≡ length x → Starts x buffer n
 starts x behind {buffer} {n} e h =
-    let p : take n buffer ≡ x = ap (take n) e ∙ take-at x behind n (sym h) in
-    record { part = p; fits = rw (e, length-append) (omega arith); counted = h ∙ ap length (sym p) }
+    let f : n ≤ length buffer = rw (e, length-append) (omega arith) in
+    record { part = ap (take n) e ∙ take-at x behind n (sym h); fits = f; counted = counted n buffer f }
 
 -- ---- the two choices
 
@@ -155,12 +160,12 @@ module _ {text sheet script sheet′ script′ : List ℕ} {r : Parsed} (g : Rea
       ap (λ (n : ℕ). answerLine n 0 0) refusal-is
       ∙ sym (printed-refused (reading text) (λ z. h (refusal-is ∙ z)))
 
-  pub sheet-start : Starts (reading text .sheet) sheet′ (r .sheet)
+  sheet-start : Starts (reading text .sheet) sheet′ (r .sheet)
   sheet-start =
       let e = ap (λ (k : Reading). k .sheet) reads in
       starts (reading text .sheet) (drop (length (reading text .sheet)) sheet) (g .sheet-bytes ∙ ap (λ (x : List ℕ). writtenOver x sheet) e) (g .sheet-length ∙ ap length e)
 
-  pub script-start : Starts (reading text .script) script′ (r .script)
+  script-start : Starts (reading text .script) script′ (r .script)
   script-start =
       let e = ap (λ (k : Reading). k .script) reads in
       starts (reading text .script) (drop (length (reading text .script)) script) (g .script-bytes ∙ ap (λ (x : List ℕ). writtenOver x script) e) (g .script-length ∙ ap length e)

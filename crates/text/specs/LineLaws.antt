@@ -18,9 +18,6 @@ use Rattle.text.specs.Line.{head, ending, digits, lineDigits, frameBytes
 pub head-drop : (at : ℕ) (l : List ℕ) → head (drop at l) ≡ getD l at 0
 head-drop at l = getD-drop at l 0 0 ∙ ap (λ (k : ℕ). getD l k 0) (add-zero at)
 
-pub drop-more : (n at : ℕ) (l : List ℕ) → drop n (drop at l) ≡ drop (at + n) l
-drop-more n at l = drop-drop n at l
-
 -- ---- digits
 
 module _ (n : ℕ) (l : List ℕ) (d : ℕ) (e : d ≡ digitValue (head l)) where
@@ -41,7 +38,7 @@ unfolding digits
 digits-two n l e =
     let a = and-both (ltb (digitValue (head l)) 16) (digits (suc n) (drop 1 l)) e in
     let b = and-both (ltb (digitValue (head (drop 1 l))) 16) (digits n (drop 1 (drop 1 l))) (a .1) in
-    (record { high = ltb-true _ _ (a .0); low = ltb-true _ _ (b .0) }, rw (drop-more 1 1 l) at (b .1))
+    (record { high = ltb-true _ _ (a .0); low = ltb-true _ _ (b .0) }, rw (drop-drop 1 1 l) at (b .1))
 
 -- ---- a line's size
 
@@ -94,7 +91,7 @@ bytes-none l = refl
 pub bytes-put : (n at : ℕ) (text out : List ℕ) (to b : ℕ) → b ≡ byteHere (drop at text)
     → sets out to (bytes (suc n) (drop at text)) ≡ sets (set out to b) (to + 1) (bytes n (drop (at + 2) text))
 unfolding bytes
-bytes-put n at text out to b e = rw (← e, drop-more 2 at text, add-one to)
+bytes-put n at text out to b e = rw (← e, drop-drop 2 at text, add-one to)
 
 -- ---- lines in a row
 
@@ -114,7 +111,7 @@ lines-none l = refl
 -- the text behind a line at a place of it
 module _ (text : List ℕ) (at size : ℕ) (e : size ≡ lineSize (drop at text)) where
   pub next-line : drop (lineSize (drop at text)) (drop at text) ≡ drop (at + size) text
-  next-line = ap (λ (k : ℕ). drop k (drop at text)) (sym e) ∙ drop-more size at text
+  next-line = ap (λ (k : ℕ). drop k (drop at text)) (sym e) ∙ drop-drop size at text
 
   pub next-within : at ≤ length text → at + size ≤ length text
   next-within h = omega (arith, size-within (drop at text), length-drop at text)

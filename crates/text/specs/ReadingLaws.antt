@@ -6,11 +6,11 @@ use mathlib.Core.List.{List, []}
 use mathlib.Core.Path.{_≡_, refl, sym, ap, ap₂, _∙_}
 use lib.Dec.{eqb, ltb}
 use lib.ListN.{length, drop, length-drop}
-use lib.Seq.{sets}
+use lib.Seq.{sets, drop-drop}
 use borrow.Author.Tests.{lt-ltb, le-ltb, ltb-false, ne-eqb}
 use Rattle.words.specs.Logic.{by-bool}
 use Rattle.text.specs.Line.{Lines, lines, ending, frameBytes, LinesAt}
-use Rattle.text.specs.LineLaws.{drop-more, lines-count, frames-length}
+use Rattle.text.specs.LineLaws.{lines-count, frames-length}
 use Rattle.text.specs.Reading.{sheetFrames, scriptFrames, malformed, longSheet, longScript, noRoom, refused, accepted, readScript, reading, readInto, Parts, Scanned, Read}
 use Rattle.text.specs.Stores.{sets-start}
 use Rattle.text.specs.declared.line.Counted.{Counted}
@@ -35,7 +35,7 @@ module _ (text : List ℕ) (a : Counted) (p : LinesAt text 0 (suc sheetFrames) a
     module _ (some : gap ≡ 0 → ⊥) where
       behind : reading text ≡ readScript (lines (suc sheetFrames) text) (lines (suc scriptFrames) (drop (a .end + gap) text))
       unfolding reading
-      behind = rw (← p .count, le-ltb sheetFrames (a .count) short, ← p .rest, ← e, ne-eqb gap 0 some, drop-more gap)
+      behind = rw (← p .count, le-ltb sheetFrames (a .count) short, ← p .rest, ← e, ne-eqb gap 0 some, drop-drop gap)
 
       module _ (b : Counted) (q : LinesAt text (a .end + gap) (suc scriptFrames) b) where
         pub long-script : scriptFrames < b .count → reading text ≡ refused longScript

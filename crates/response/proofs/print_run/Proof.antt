@@ -2,7 +2,7 @@
 -- Assumes nothing.
 use borrow.Author.Needs.{needs}
 use native.Mathlib.Omega.{arith}
-use Rattle.response.specs.PrintedLaws.{prints-same, place-fits, run-refused, answers-start, run-answered}
+use Rattle.response.specs.PrintedLaws.{prints-same, counted, place-fits, run-refused, answers-start, run-answered}
 use Rattle.response.proofs.print_run.Statement.{statement}
 use Rattle.response.proofs.print_run.Tie as tie
 
@@ -36,10 +36,10 @@ mul-end : tie.Need-mul-end
 mul-end c = search needs
 
 array-share-prefix-answers : tie.Need-array-share-prefix-answers
-array-share-prefix-answers c = answers-start (c .before .before .before .before .before .run .ensures) (omega arith) (c .if1 .left) .fits
+array-share-prefix-answers c = omega (arith, answers-start (c .before .before .before .before .before .run .ensures) (omega arith) (c .if1 .left) .fits)
 
 slice-aggregate-print-answers : tie.Need-slice-aggregate-print-answers
-slice-aggregate-print-answers c = answers-start (c .before .before .before .before .before .before .run .ensures) (omega arith) (c .before .if1 .left) .counted
+slice-aggregate-print-answers c = counted _ _ (omega (arith, answers-start (c .before .before .before .before .before .before .run .ensures) (omega arith) (c .before .if1 .left) .fits))
 
 print-answers-requires : tie.Need-print-answers-requires
 print-answers-requires c κs = search needs

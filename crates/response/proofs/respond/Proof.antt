@@ -1,7 +1,7 @@
 -- `response::respond` meets its contract: the parts that are handed on hold the bytes that were read. Assumes nothing.
 use borrow.Author.Needs.{needs}
 use native.Mathlib.Omega.{arith}
-use Rattle.response.specs.PrintedLaws.{prints-same, text-refused, sheet-start, script-start, text-read}
+use Rattle.response.specs.PrintedLaws.{prints-same, counted, text-refused, text-read}
 use Rattle.response.proofs.respond.Statement.{statement}
 use Rattle.response.proofs.respond.Tie as tie
 
@@ -29,13 +29,13 @@ array-share-prefix-sheet : tie.Need-array-share-prefix-sheet
 array-share-prefix-sheet c = search needs
 
 slice-aggregate-print-run : tie.Need-slice-aggregate-print-run
-slice-aggregate-print-run c = sheet-start (c .before .before .before .before .before .read .ensures) (omega arith) (omega arith) .counted
+slice-aggregate-print-run c = let r = c .before .before .before .before .before .read in counted _ _ (omega (arith, r .ensures .sheet-fits, r .kept .1 .0))
 
 array-share-prefix-script : tie.Need-array-share-prefix-script
 array-share-prefix-script c = search needs
 
 slice-aggregate-print-run-2 : tie.Need-slice-aggregate-print-run-2
-slice-aggregate-print-run-2 c = script-start (c .before .before .before .before .before .before .read .ensures) (omega arith) (omega arith) .counted
+slice-aggregate-print-run-2 c = let r = c .before .before .before .before .before .before .read in counted _ _ (omega (arith, r .ensures .sheet-fits, r .ensures .script-fits, r .kept .1 .1 .0))
 
 print-run-requires : tie.Need-print-run-requires
 print-run-requires c κs = search needs

@@ -2,7 +2,7 @@
 use borrow.Author.Needs.{needs}
 use native.Mathlib.Omega.{arith}
 use Prim.Native.Nat.{_<_}
-use Rattle.text.specs.LineLaws.{drop-more}
+use lib.Seq.{drop-drop}
 use Rattle.text.proofs.frame.byte.Statement.{statement}
 use Rattle.text.proofs.frame.byte.Tie as tie
 
@@ -30,12 +30,12 @@ add-result : tie.Need-add-result
 add-result c =
     let p = c .before .before .before .before .before .pre .1 in
     let h : c .before .before .digit-value .result < 16 = rw (c .before .before .digit-value .ensures, c .before .before .before .byte-at .ensures) (p .high) in
-    let l : c .digit-value2 .result < 16 = rw (c .digit-value2 .ensures, c .before .byte-at2 .ensures, ← drop-more 1) (p .low) in
+    let l : c .digit-value2 .result < 16 = rw (c .digit-value2 .ensures, c .before .byte-at2 .ensures, ← drop-drop 1) (p .low) in
     omega arith
 
 returns : tie.Need-returns
 returns c =
-    rw (c .digit-value2 .ensures, c .before .byte-at2 .ensures, c .before .before .digit-value .ensures, c .before .before .before .byte-at .ensures, ← drop-more 1)
+    rw (c .digit-value2 .ensures, c .before .byte-at2 .ensures, c .before .before .digit-value .ensures, c .before .before .before .byte-at .ensures, ← drop-drop 1)
 
 pub byte-spec : {M : Type 1} → statement M
 byte-spec =

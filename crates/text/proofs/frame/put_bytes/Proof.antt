@@ -6,9 +6,9 @@ use native.Mathlib.Numerals.{unary-clauses}
 use mathlib.Core.Bool.{true}
 use mathlib.Core.Path.{_≡_, refl, sym, _∙_}
 use lib.ListN.{length, drop, length-set}
-use lib.Seq.{sets}
+use lib.Seq.{sets, drop-drop}
 use Rattle.text.specs.Line.{digits, bytes}
-use Rattle.text.specs.LineLaws.{drop-more, digits-two, bytes-put, bytes-none}
+use Rattle.text.specs.LineLaws.{digits-two, bytes-put, bytes-none}
 use Rattle.text.proofs.frame.put_bytes.Statement.{statement}
 use Rattle.text.proofs.frame.put_bytes.Tie as tie
 
@@ -58,7 +58,7 @@ loop-again c =
       omega (arith, l .inv),
       omega (arith, l .inv),
       simp length-set (l .inv .3),
-      rw (drop-more 2) at (digits-two _ _ (rw e at (l .inv .4)) .1),
+      rw (drop-drop 2) at (digits-two _ _ (rw e at (l .inv .4)) .1),
       l .inv .5 ∙ rw f (bytes-put _ (l .at) (a .text .now) (l .out) (l .to) _ (c .byte .ensures)),
     )
 

@@ -5,9 +5,10 @@ use native.Mathlib.Omega.{arith}
 use native.Mathlib.Numerals.{unary-clauses}
 use mathlib.Core.Path.{_≡_, sym, ap, _∙_}
 use lib.ListN.{drop}
+use lib.Seq.{drop-drop}
 use Rattle.text.specs.Hex.{digitValue}
 use Rattle.text.specs.Line.{digits}
-use Rattle.text.specs.LineLaws.{drop-more, digits-none, digits-stop, digits-go}
+use Rattle.text.specs.LineLaws.{digits-none, digits-stop, digits-go}
 use Rattle.text.proofs.line.digits.Statement.{statement}
 use Rattle.text.proofs.line.digits.Tie as tie
 
@@ -54,7 +55,7 @@ loop-again c =
     let d = c .before .digit-value .ensures ∙ ap digitValue (c .before .before .byte-at .ensures) in (
       omega (arith, t),
       omega (arith, l .inv),
-      l .inv .2 ∙ rw e (digits-go _ _ _ d (c .if1 .left) ∙ rw (drop-more 1)),
+      l .inv .2 ∙ rw e (digits-go _ _ _ d (c .if1 .left) ∙ rw (drop-drop 1)),
     )
 
 returns-2 : tie.Need-returns-2 Inv-loop μ-loop

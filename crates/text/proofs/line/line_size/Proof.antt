@@ -4,9 +4,10 @@ use Prim.Native.Nat.{_+_}
 use native.Mathlib.Omega.{arith}
 use mathlib.Core.Path.{sym, _∙_}
 use lib.ListN.{drop, length-drop}
+use lib.Seq.{drop-drop}
 use borrow.Author.Tests.{not-true, not-false}
 use Rattle.text.specs.Line.{lineDigits}
-use Rattle.text.specs.LineLaws.{drop-more, ending-within, size-no-digits, size-no-end, size-line}
+use Rattle.text.specs.LineLaws.{ending-within, size-no-digits, size-no-end, size-line}
 use Rattle.text.proofs.line.line_size.Statement.{statement}
 use Rattle.text.proofs.line.line_size.Tie as tie
 
@@ -25,7 +26,7 @@ ending-requires c κs = search needs
 returns-2 : tie.Need-returns-2
 returns-2 c =
     let d = sym (c .before .before .before .digits .ensures) ∙ not-false _ (c .before .before .if1 .left) in
-    sym (size-no-end _ d _ (c .before .ending .ensures ∙ rw (drop-more lineDigits)) (c .if2 .taken))
+    sym (size-no-end _ d _ (c .before .ending .ensures ∙ rw (drop-drop lineDigits)) (c .if2 .taken))
 
 add-result : tie.Need-add-result
 add-result c =
@@ -35,7 +36,7 @@ add-result c =
 returns-3 : tie.Need-returns-3
 returns-3 c =
     let d = sym (c .before .before .before .digits .ensures) ∙ not-false _ (c .before .before .if1 .left) in
-    sym (size-line _ d _ (c .before .ending .ensures ∙ rw (drop-more lineDigits)) (omega (arith, c .if2 .left)))
+    sym (size-line _ d _ (c .before .ending .ensures ∙ rw (drop-drop lineDigits)) (omega (arith, c .if2 .left)))
 
 pub line-size-spec : {M : Type 1} → statement M
 line-size-spec =
