@@ -1,11 +1,12 @@
 // The program: a text from standard input, and what is printed for it to standard output.
 ghost use Prim.Native.Nat.{_≤_};
 ghost use lib.ListN.{length};
+ghost use Rattle.text.specs.Prefix.{decisive};
 ghost use Rattle.response.specs.Printed.{printed, Starts};
 use libc::STDIN_FILENO;
 use libc::STDOUT_FILENO;
 
-// The most that is read. What stands behind it in a longer text makes no difference (`printed-prefix`).
+// The most that is read.
 const TEXT_BYTES: usize = 16384;
 
 // A thousand lines of thirteen bytes.
@@ -19,8 +20,15 @@ fn respond_whole(text: &[u8], output: &mut [u8]) -> usize
     response::respond(text, output)
 }
 
+// Room for so much of a text that what stands behind it in a longer one makes no difference (`printed-prefix`).
+fn text_room() -> [u8; TEXT_BYTES]
+    ensures { λ r. ⌜ decisive ≤ length r ⌝ }
+{
+    [0; TEXT_BYTES]
+}
+
 fn main() {
-    let mut text = [0u8; TEXT_BYTES];
+    let mut text = text_room();
     let read = io::read_full(STDIN_FILENO, &mut text);
     let mut output = [0u8; OUTPUT_BYTES];
     let written = respond_whole(&text[..read], &mut output);

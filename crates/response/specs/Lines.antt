@@ -9,20 +9,20 @@ use Rattle.words.specs.Logic.{by-bool, tests}
 use Rattle.sheet.specs.Cause.{Refusal}
 use Rattle.sheet.specs.Keeps.{Keeps}
 use Rattle.session.specs.Model.{answerLength, answerBytes, lines, answerAt, answers}
-use Rattle.session.specs.Script.{answer-bytes}
+use Rattle.session.specs.Script.{length-answers, answer-bytes}
 use Rattle.run.specs.Run.{refusal, book}
 use Rattle.run.specs.Accept.{Proper, number-proper, proper-accepted}
 use Rattle.text.specs.Hex.{hexLine}
 use Rattle.text.specs.Reading.{scriptFrames, reading}
 use Rattle.text.specs.ReadingLaws.{Framed, script-framed}
-use Rattle.text.specs.Prefix.{reading-prefix}
+use Rattle.text.specs.Prefix.{decisive, reading-prefix}
 use Rattle.text.specs.Answer.{answerSize, answerLineSize, answerLine}
 use Rattle.text.specs.AnswerLaws.{line-at, line-length}
 use Rattle.response.specs.Printed.{allLines, refusalOf, linesBy, printedRun, printedFor, printed, Prints, Starts}
-use Rattle.response.specs.PrintedLaws.{all-length, starts, lines-refused, lines-answered, printed-refused, printed-read, room-fits, model-length}
+use Rattle.response.specs.PrintedLaws.{all-length, starts, lines-refused, lines-answered, printed-refused, printed-read, room-fits}
 
 -- What stands behind the first 10,828 bytes of a text makes no difference.
-pub printed-prefix : (k : ℕ) (text : List ℕ) → 10828 ≤ k → printed (take k text) ≡ printed text
+pub printed-prefix : (k : ℕ) (text : List ℕ) → decisive ≤ k → printed (take k text) ≡ printed text
 unfolding printed
 printed-prefix k text h = ap printedFor (reading-prefix k text h)
 
@@ -34,7 +34,7 @@ run-most sheet script =
     let r = refusalOf sheet script in
     by-bool (eqb (r .number) 0)
     (λ t. let e : r .number ≡ 0 = omega tests in
-    omega (arith, ap length (lines-answered r (answers (book sheet) script) e), all-length (answers (book sheet) script), model-length sheet script, number-proper sheet script _ e .few))
+    omega (arith, ap length (lines-answered r (answers (book sheet) script) e), all-length (answers (book sheet) script), length-answers (book sheet) script, number-proper sheet script _ e .few))
     (λ f. omega (arith, ap length (lines-refused r (answers (book sheet) script) (omega tests)), line-length (r .number) (r .place) 0))
 
 -- 13,000 bytes always suffice: 1,000 lines of 13.
@@ -85,7 +85,7 @@ module _ (text sheet script : List ℕ) (reads : reading text ≡ record { refus
     all-answers = runs ∙ lines-answered (refusalOf sheet script) (answers (book sheet) script) accepted
 
     pub prints-lines : length (printed text) ≡ answerLineSize * lines script
-    prints-lines = ap length all-answers ∙ all-length (answers (book sheet) script) ∙ omega (arith, model-length sheet script)
+    prints-lines = ap length all-answers ∙ all-length (answers (book sheet) script) ∙ omega (arith, length-answers (book sheet) script)
 
     pub prints-answers : (i : ℕ) → i < lines script
         → take answerLineSize (drop (answerLineSize * i) (printed text))
@@ -94,5 +94,5 @@ module _ (text sheet script : List ℕ) (reads : reading text ≡ record { refus
     prints-answers i h =
         let x = answers (book sheet) script in
         ap (λ (l : List ℕ). take answerLineSize (drop (answerLineSize * i) l)) all-answers
-        ∙ line-at i (length x / answerSize) x (omega (arith, model-length sheet script)) (omega arith)
+        ∙ line-at i (length x / answerSize) x (omega (arith, length-answers (book sheet) script)) (omega arith)
         ∙ ap hexLine (answer-bytes (book sheet) [] script i (lines script) h)

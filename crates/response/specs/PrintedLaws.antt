@@ -14,7 +14,7 @@ use Rattle.words.specs.Bytes.{bytesOf}
 use Rattle.sheet.specs.Cause.{Cause, Refusal, first, someHolds, first-append, first-earlier}
 use Rattle.sheet.specs.Rules.{sizeCauses, frameCauses}
 use Rattle.session.specs.Model.{answerLength, lines, answers}
-use Rattle.session.specs.Script.{length-answersTo}
+use Rattle.session.specs.Script.{length-answers}
 use Rattle.run.specs.Run.{mostLines, scriptCauses, roomCauses, refusal, book, Run}
 use Rattle.run.specs.Bounds.{place-below}
 use Rattle.text.specs.declared.Parsed.{Parsed}
@@ -109,10 +109,6 @@ module _ (sheet script : List ℕ) (bytes : ℕ) where
       ∙ sym (first-append (sizeCauses sheet) _))
       (λ f. room-fits (omega tests))
 
-pub model-length : (sheet script : List ℕ) → length (answers (book sheet) script) ≡ answerLength * lines script
-unfolding answers
-model-length sheet script = length-answersTo (book sheet) [] script (lines script)
-
 module _ {sheet script ans under over ans′ under′ over′ : List ℕ} {number place cu co : ℕ}
     (g : Run sheet script ans under over ans′ under′ over′ number place cu co) (room : answerLength * mostLines ≤ length ans) where
   told : refusal sheet script (length ans) ≡ refusalOf sheet script
@@ -136,7 +132,7 @@ module _ {sheet script ans under over ans′ under′ over′ : List ℕ} {numbe
 
   module _ (accepted : number ≡ 0) where
     pub answers-start : Starts (answers (book sheet) script) ans′ (lines script * answerSize)
-    answers-start = starts (answers (book sheet) script) (drop (answerLength * lines script) ans) (g .answered .written accepted) (omega (arith, model-length sheet script))
+    answers-start = starts (answers (book sheet) script) (drop (answerLength * lines script) ans) (g .answered .written accepted) (omega (arith, length-answers (book sheet) script))
 
     pub run-answered : allLines (take (lines script * answerSize) ans′) ≡ printedRun sheet script
     unfolding printedRun

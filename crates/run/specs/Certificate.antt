@@ -15,7 +15,7 @@ use Rattle.solver.specs.Contract.{root, Tables}
 use Rattle.session.specs.Model.{enteredMask, enteredValues, Reply, answerLength, answerBytes, refused, judged, TAKE-BACK, WHY, lines, lineAt, answerAt, answers, meaning}
 use Rattle.session.specs.Line.{refused-same, refused-answer}
 use Rattle.session.specs.Kinds.{ask-taken, why-taken}
-use Rattle.session.specs.Script.{after-next, length-answersTo, answer-bytes}
+use Rattle.session.specs.Script.{after-next, length-answers, answer-bytes}
 use Rattle.session.specs.Step.{searches}
 use Rattle.run.specs.Run.{refusal, causes, book, before, kindAt, Taken, Asked, Held, asLent, Grows, Promised-at}
 use Rattle.run.specs.History.{RecordsTrue, lent-true, promised-grows, history-true, history-grows}
@@ -58,28 +58,24 @@ module _ (sheet script : List ℕ) (o : Call) (R : Meets sheet script o) where
     kept : Proper sheet script (length (o .ans))
     kept = accepted-exactly .0 accepted
 
-    model-length : length (answers (book sheet) script) ≡ answerLength * lines script
-    unfolding answers
-    model-length = length-answersTo (book sheet) [] script (lines script)
-
     -- An accepted run writes one answer for each line, the reference model's, from the start of the answer buffer.
     pub one-answer : (i : ℕ) → i < lines script → lineBytes o i ≡ answerBytes (answerAt (book sheet) [] script i)
     unfolding answers
     one-answer i h =
         let x = answers (book sheet) script in
         let z = drop (answerLength * lines script) (o .ans) in
-        let l : answerLength * i ≤ length x = omega (arith, model-length) in
-        let r : answerLength ≤ length (drop (answerLength * i) x) = rw (length-drop, model-length) (omega arith) in
+        let l : answerLength * i ≤ length x = omega (arith, length-answers (book sheet) script) in
+        let r : answerLength ≤ length (drop (answerLength * i) x) = rw (length-drop, length-answers) (omega arith) in
         let e : o .ans' ≡ x ++ z = R .answered .written accepted in
         rw (e, drop-append-le (answerLength * i) x z l, take-append-le answerLength (drop (answerLength * i) x) z r)
         (answer-bytes (book sheet) [] script i (lines script) h)
 
     -- What stands behind the answers in the buffer is as at entry, and so is the buffer's length.
     pub behind-untouched : drop (answerLength * lines script) (o .ans') ≡ drop (answerLength * lines script) (o .ans)
-    behind-untouched = rw (R .answered .written accepted) (drop-at (answers (book sheet) script) (drop (answerLength * lines script) (o .ans)) (answerLength * lines script) model-length)
+    behind-untouched = rw (R .answered .written accepted) (drop-at (answers (book sheet) script) (drop (answerLength * lines script) (o .ans)) (answerLength * lines script) (length-answers (book sheet) script))
 
     pub same-length : length (o .ans') ≡ length (o .ans)
-    same-length = rw (R .answered .written accepted, length-append, length-drop, model-length) (omega (arith, kept .room))
+    same-length = rw (R .answered .written accepted, length-append, length-drop, length-answers) (omega (arith, kept .room))
 
     -- ---- condition 2
 

@@ -4,12 +4,11 @@ use native.Mathlib.Omega.{arith}
 use mathlib.Core.Path.{_≡_, refl, sym, ap, _∙_}
 use mathlib.Core.List.{List, [], _++_}
 use lib.ListN.{length, getD, drop, length-append, length-drop}
-use Rattle.words.specs.Bytes.{bytesOf}
 use Rattle.sheet.specs.Cause.{Refusal, first-none}
 use Rattle.sheet.specs.Check.{Checks}
 use Rattle.session.specs.declared.Session.{Session}
 use Rattle.session.specs.Model.{Answer, answerLength, answerBytes, lines, lineAt, line, answerAt, answersTo, answers}
-use Rattle.session.specs.Script.{after-none, after-next, answers-none, answers-next, length-answersTo}
+use Rattle.session.specs.Script.{after-none, after-next, answers-none, answers-next, length-answerBytes, length-answersTo}
 use Rattle.session.specs.Sound.{standingOf, Checked, Sound, Empty, empty-standing, empty-sound}
 use Rattle.session.specs.Step.{Tells, Untouched, Step}
 use Rattle.run.specs.Run.{causes, book, before, Held, asLent, Grows, LineRecords, History, Run}
@@ -57,10 +56,6 @@ told-whole b a t =
     ∙ ap (λ (v : ℕ). record { number = a .number; v = v; word = b .word }) (t .v-is)
     ∙ ap (λ (w : ℕ). record { number = a .number; v = a .v; word = w }) (t .word-is)
 
-length-bytes : (a : Answer) → length (answerBytes a) ≡ answerLength
-unfolding answerBytes bytesOf
-length-bytes a = refl
-
 module _ {s script : List ℕ} {free : ℕ} {ans under over : List ℕ} {i : ℕ} {x x' : Session} {ans₁ u o ans₂ u' o' : List ℕ}
     (g : Progress s script free ans under over i x ans₁ u o) (t : LineRun s script free i x ans₁ u o x' ans₂ u' o') where
   -- the answer is the reference model's
@@ -73,7 +68,7 @@ module _ {s script : List ℕ} {free : ℕ} {ans under over : List ℕ} {i : ℕ
       let p = answersTo (book s) [] script i in
       let bs = answerBytes (t .answer) in
       let e : i * 6 ≡ answerLength * i = omega arith in
-      let f : answerLength * (i + 1) ≡ answerLength * i + length bs = omega (arith, length-bytes (t .answer)) in
+      let f : answerLength * (i + 1) ≡ answerLength * i + length bs = omega (arith, length-answerBytes (t .answer)) in
       rw (f, answers-next (book s) [] script i, ← answer-told)
       (t .put ∙ rw (e, g .told) (written-next p bs ans (answerLength * i) (length-answersTo (book s) [] script i)))
 

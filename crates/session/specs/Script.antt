@@ -79,6 +79,10 @@ pub standing-keeps : (m : Meaning) (s : List ℕ) → Entered m (standing m s)
 unfolding standing
 standing-keeps m s = after-keeps m [] s (none-entered m) (lines s)
 
+pub length-answers : (m : Meaning) (s : List ℕ) → length (answers m s) ≡ answerLength * lines s
+unfolding answers
+length-answers m s = length-answersTo m [] s (lines s)
+
 -- ---- two scripts in a row, the first of n whole lines
 
 module _ (m : Meaning) (a b : List ℕ) (n : ℕ) (whole : length a ≡ 4 * n) where

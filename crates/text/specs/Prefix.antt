@@ -1,5 +1,5 @@
--- A text is read by a beginning of it: what stands behind the first 10,828 bytes makes no difference, so a program that reads the first
--- 16 KiB tells what the whole text would. Assumes nothing.
+-- A text is read by a beginning of it: what stands behind makes no difference, so a program that reads that much tells what the whole text would.
+-- Assumes nothing.
 use Prim.Native.Nat.{ℕ, zero, suc, _+_, _-_, _*_, _≤_, _<_}
 use native.Mathlib.Omega.{arith}
 use native.Mathlib.Nat.{zero-add, suc-add}
@@ -107,7 +107,11 @@ some-left zero l h = absurd (omega arith)
 some-left (suc k) [] h = refl
 some-left (suc k) (a ∷ l) h = lt-ltb 0 (length (take (suc k) (a ∷ l))) (omega arith) ∙ sym (lt-ltb 0 (length (a ∷ l)) (omega arith))
 
-pub reading-prefix : (k : ℕ) (text : List ℕ) → 10828 ≤ k → reading (take k text) ≡ reading text
+-- so many bytes decide: 201 sheet lines, the empty line, 1,001 script lines, and what shows that another line or the end follows
+abbrev pub decisive : ℕ
+decisive = 10828
+
+pub reading-prefix : (k : ℕ) (text : List ℕ) → decisive ≤ k → reading (take k text) ≡ reading text
 unfolding reading
 reading-prefix k text h =
     let p = lines-prefix (suc sheetFrames) k text (omega arith) in

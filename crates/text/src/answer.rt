@@ -1,7 +1,7 @@
 // Lines of digits for the six bytes of an answer.
 ghost use mathlib.Core.Path.{_≡_};
 ghost use mathlib.Core.List.{[], _∷_};
-ghost use Prim.Native.Nat.{_+_, _*_, _%_, _≤_, min};
+ghost use Prim.Native.Nat.{_+_, _*_, _≤_, min};
 ghost use lib.ListN.{length, take, drop};
 ghost use lib.Seq.{sets};
 ghost use Rattle.text.specs.Hex.{hexLine};
@@ -13,13 +13,6 @@ use crate::hex::low_digit;
 pub const BYTES: usize = 6;
 
 pub const LINE_BYTES: usize = 13;
-
-// The lowest byte of a word.
-pub fn low_byte(w: u32) -> u8
-    ensures { λ r. ⌜ r ≡ w % 256 ⌝ }
-{
-    (w % 256) as u8
-}
 
 pub fn lesser(a: usize, b: usize) -> usize
     ensures { λ r. ⌜ r ≡ min a b ⌝ }

@@ -9,7 +9,7 @@ use layout::Layout;
 use sheet::refusal;
 ghost use mathlib.Core.Path.{_≡_};
 ghost use Rattle.text.specs.Reading.{Read};
-ghost use Rattle.text.specs.Answer.{Wrote, answerLine};
+ghost use Rattle.text.specs.Answer.{Wrote};
 
 // What reading a text gives: a refusal's number or 0, and how many bytes of a sheet and of a script it wrote, 0 if refused.
 pub struct Parsed {
@@ -65,20 +65,6 @@ pub fn read(text: &[u8], sheet: &mut [u8], script: &mut [u8]) -> Parsed
             }
         }
     }
-}
-
-// The line of an answer: twelve digits and 0A.
-pub fn answer_line(number: u8, v: u8, word: u32) -> [u8; 13]
-    ensures { λ r. ⌜ r ≡ answerLine number v word ⌝ }
-{
-    answer::hex_line(
-        number,
-        v,
-        answer::low_byte(word / 16777216),
-        answer::low_byte(word / 65536),
-        answer::low_byte(word / 256),
-        answer::low_byte(word),
-    )
 }
 
 // Writes the lines of as many answers as are whole and have room, and says how many bytes that are.
