@@ -184,14 +184,14 @@ module _ (s words : List ℕ) (bound : ℕ) (P : Passed s words bound (frames s)
 -- ---- the pass, frame by frame
 
 -- where it ends: a frame is refused, or all are passed
-pub record Scanned (s words : List ℕ) (bound number place : ℕ) : Type 0 where
-  pub refused : (number ≡ 0 → ⊥) → Checks (frameCauses s) s number place 0
-  pub passed : number ≡ 0 → Passed s words bound (frames s)
+pub record Scanned (s words : List ℕ) (bound fault place : ℕ) : Type 0 where
+  pub refused : (fault ≡ 0 → ⊥) → Checks (frameCauses s) s fault place 0
+  pub passed : fault ≡ 0 → Passed s words bound (frames s)
 
 -- a reader stands at frame k: that frame is judged next, or the pass has ended
-pub record Scanning (s words : List ℕ) (k : ℕ) (more : Bool) (bound number place : ℕ) : Type 0 where
+pub record Scanning (s words : List ℕ) (k : ℕ) (more : Bool) (bound fault place : ℕ) : Type 0 where
   pub going : more ≡ true → Passed s words bound k × (k < frames s)
-  pub ended : more ≡ false → Scanned s words bound number place
+  pub ended : more ≡ false → Scanned s words bound fault place
 
 pub scan-starts : (s words : List ℕ) → frames s ≤ 200 → 0 < frames s → length words ≡ 200 → Scanning s words 0 true 0 0 0
 scan-starts s words m h l = record { going = λ _. (passed-none s words m l, h); ended = λ t. clash true refl t }

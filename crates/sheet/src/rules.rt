@@ -226,21 +226,21 @@ fn pass(frame: Frame, words: &mut [u32; 200], bound: u32) -> u32
 struct Scan {
     more: bool,
     bound: u32,
-    number: u8,
+    fault: u8,
     place: u16,
 }
 
 // One turn of the pass, over the frame that the reader gave: it is refused, or its words are kept.
 fn visit(sheet: &[u8], words: &mut [u32; 200], scan: Scan, frame: Frame) -> Scan
     requires { ⌜ Passed (now sheet) (now words) (scan .bound) (frame .number) × (frame .number < frames (now sheet)) × (frame .kind ≡ kind (now sheet) (frame .number)) ⌝ }
-    ensures { λ r. ⌜ Scanning (now (sheet .entry)) (now (words .exit)) (frame .number + 1) (r .more) (r .bound) (r .number) (r .place) ⌝ }
+    ensures { λ r. ⌜ Scanning (now (sheet .entry)) (now (words .exit)) (frame .number + 1) (r .more) (r .bound) (r .fault) (r .place) ⌝ }
 {
-    let number = fault_of(sheet, frame, scan.bound);
-    if number != 0 {
+    let fault = fault_of(sheet, frame, scan.bound);
+    if fault != 0 {
         return Scan {
             more: false,
             bound: scan.bound,
-            number,
+            fault,
             place: frame.number as u16,
         };
     }
@@ -249,15 +249,15 @@ fn visit(sheet: &[u8], words: &mut [u32; 200], scan: Scan, frame: Frame) -> Scan
     Scan {
         more: next < sheet.len() / 4,
         bound,
-        number: 0,
+        fault: 0,
         place: 0,
     }
 }
 
 // The pass from frame 0 on: one reader is stepped along the sheet.
 fn scan_frames(sheet: &[u8], words: &mut [u32; 200], mut scan: Scan) -> Scan
-    requires { ⌜ Scanning (now sheet) (now words) 0 (scan .more) (scan .bound) (scan .number) (scan .place) ⌝ }
-    ensures { λ r. ⌜ Scanned (now (sheet .entry)) (now (words .exit)) (r .bound) (r .number) (r .place) ⌝ }
+    requires { ⌜ Scanning (now sheet) (now words) 0 (scan .more) (scan .bound) (scan .fault) (scan .place) ⌝ }
+    ensures { λ r. ⌜ Scanned (now (sheet .entry)) (now (words .exit)) (r .bound) (r .fault) (r .place) ⌝ }
 {
     let mut reader = reader::new(sheet, 0);
     while scan.more {
@@ -301,12 +301,12 @@ pub fn check_frames(sheet: &[u8]) -> Checked
     let from = Scan {
         more: true,
         bound: 0,
-        number: 0,
+        fault: 0,
         place: 0,
     };
     let scan = scan_frames(sheet, &mut words, from);
-    if scan.number != 0 {
-        return refused(scan.number, scan.place);
+    if scan.fault != 0 {
+        return refused(scan.fault, scan.place);
     }
     let last = sheet.len() / 4 - 1;
     root_answer(words[last], scan.bound, last as u16)

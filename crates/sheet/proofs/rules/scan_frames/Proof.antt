@@ -107,7 +107,7 @@ record State (s : RefT (List ℕ)) : Type 0 where
   scan : Scan
   words : List ℕ
   bytes-is : reader .bytes ≡ s
-  scanning : Scanning (now s) words (reader .at) (scan .more) (scan .bound) (scan .number) (scan .place)
+  scanning : Scanning (now s) words (reader .at) (scan .more) (scan .bound) (scan .fault) (scan .place)
   scan-is : Is S.the-row scan (S′.lowered scan ∷ [])
 
 abbrev Nearer : (s : RefT (List ℕ)) → State s → State s → Type 0
@@ -130,13 +130,13 @@ module _ (s : RefT (List ℕ)) (t : State s) (more : t .scan .more ≡ true) (d 
       ap (λ (h : Reader). h .at) (e .2)
       ∙ following-in (now (t .reader .bytes)) (t .reader .at) (subst (λ (b : RefT (List ℕ)). t .reader .at < frames (now b)) (sym (t .bytes-is)) (t .scanning .going more .1))
 
-  abbrev onward : (l : List ℕ) (z : Scan) → Scanning (now s) l (d .number + 1) (z .more) (z .bound) (z .number) (z .place) → Is S.the-row z (S′.lowered z ∷ []) → State s
+  abbrev onward : (l : List ℕ) (z : Scan) → Scanning (now s) l (d .number + 1) (z .more) (z .bound) (z .fault) (z .place) → Is S.the-row z (S′.lowered z ∷ []) → State s
   onward l z c is = record {
     reader = r;
     scan = z;
     words = l;
     bytes-is = ap (λ (h : Reader). h .bytes) (e .2) ∙ t .bytes-is;
-    scanning = subst (λ (k : ℕ). Scanning (now s) l k (z .more) (z .bound) (z .number) (z .place)) (ap (λ (k : ℕ). k + 1) (e .0) ∙ sym at-next) c;
+    scanning = subst (λ (k : ℕ). Scanning (now s) l k (z .more) (z .bound) (z .fault) (z .place)) (ap (λ (k : ℕ). k + 1) (e .0) ∙ sym at-next) c;
     scan-is = is;
   }
 
@@ -146,7 +146,7 @@ module _ (s : RefT (List ℕ)) (t : State s) (more : t .scan .more ≡ true) (d 
 -- ---- the walk. κ and q are the sheet's lifetime and share, ρ and p those of the words, which lie at (b, o)
 module _ {M : Type 1} (𝓤 : URA M) (H : Heap 𝓤) (A : Atoms 𝓤) (W : Given 𝓤 H A) (at-mem : Memory → SProp 𝓤) (run : Routine → Fun 𝓤)
     (κ ρ : Lft) (q p : Share) (s : RefT (List ℕ)) (b o : ℕ) (γ : GName) (l₀ : List ℕ) (z₀ : Scan)
-    (starts : Scanning (now s) l₀ 0 (z₀ .more) (z₀ .bound) (z₀ .number) (z₀ .place)) (z₀-is : Is S.the-row z₀ (S′.lowered z₀ ∷ [])) where
+    (starts : Scanning (now s) l₀ 0 (z₀ .more) (z₀ .bound) (z₀ .fault) (z₀ .place)) (z₀-is : Is S.the-row z₀ (S′.lowered z₀ ∷ [])) where
   -- the words under the name δ, at the value l
   abbrev lent : GName → List ℕ → RefT (List ℕ)
   lent δ l = record { ptr = (b, o); name = δ; now = l }
@@ -166,7 +166,7 @@ module _ {M : Type 1} (𝓤 : URA M) (H : Heap 𝓤) (A : Atoms 𝓤) (W : Given
   abbrev Post : Val → SProp 𝓤
   Post = walkOf 𝓤 H A f.ended stayed (f.clauses 𝓤 H A at-mem run) .post (((κ, (ρ, tt)), (q, (p, tt)), tt, x, at), tt)
 
-  exits : (z : Scan) (l : List ℕ) → Scanned (now s) l (z .bound) (z .number) (z .place) → Is S.the-row z (S′.lowered z ∷ [])
+  exits : (z : Scan) (l : List ℕ) → Scanned (now s) l (z .bound) (z .fault) (z .place) → Is S.the-row z (S′.lowered z ∷ [])
       → ent 𝓤 (⋆ 𝓤 H A (‵ (flft κ q) ∷ ‵ (flft ρ p) ∷ ‵ Sheet ∷ ‵ (Table ρ γ l) ∷ [])) (Post (S′.lowered z))
   exits z l e is =
       qed W (‵ (flft κ q) ∷ ‵ (flft ρ p) ∷ ‵ Sheet ∷ ‵ (Table ρ γ l) ∷ []) ∵
@@ -200,7 +200,7 @@ module _ {M : Type 1} (𝓤 : URA M) (H : Heap 𝓤) (A : Atoms 𝓤) (W : Given
   Ends = Unit {0} × (List ℕ × (Unit {0} × (Unit {0} × Unit {0})))
 
   abbrev Judged : Frame → Scan → Ends → Type 0
-  Judged d z ls = Scanning (now s) (ls .1 .0) (d .number + 1) (z .more) (z .bound) (z .number) (z .place)
+  Judged d z ls = Scanning (now s) (ls .1 .0) (d .number + 1) (z .more) (z .bound) (z .fault) (z .place)
 
   module _ (m₀ m₁ m₂ m₃ m₄ m₅ m₆ m₇ m₈ m₉ : ℕ) where
     abbrev En : Env 𝓤 H
@@ -275,7 +275,7 @@ module _ {M : Type 1} (𝓤 : URA M) (H : Heap 𝓤) (A : Atoms 𝓤) (W : Given
   scan-frames-walks : Walks 𝓤 H A f.ended stayed (WpFn 𝓤 H (𝓣 .C) (𝓣 .Λ) code.function) (f.clauses 𝓤 H A mem run)
   scan-frames-walks = walked 𝓤 H A f.ended stayed (f.clauses 𝓤 H A mem run) (WpFn 𝓤 H (𝓣 .C) (𝓣 .Λ) code.function)
       (λ κs. (slice-vals, (ptr-vals, ((λ (z : Scan). S′.lowered z ∷ []), tt)))) (λ κs. (shr-slice-tells (named 0) (κs .0) u8, (mut-tells (named 1) (κs .1 .0) Words, (S′.lowers .val-is, tt))))
-      (λ κs qs bounds a g are. needs 𝓤 (Scanning (a .0 .now) (a .1 .0 .now) 0 (a .1 .1 .0 .more) (a .1 .1 .0 .bound) (a .1 .1 .0 .number) (a .1 .1 .0 .place)) _ (λ starts.
+      (λ κs qs bounds a g are. needs 𝓤 (Scanning (a .0 .now) (a .1 .0 .now) 0 (a .1 .1 .0 .more) (a .1 .1 .0 .bound) (a .1 .1 .0 .fault) (a .1 .1 .0 .place)) _ (λ starts.
       walk 𝓤 H A W mem run (κs .0) (κs .1 .0) (qs .0) (qs .1 .0) (a .0) (a .1 .0 .ptr .0) (a .1 .0 .ptr .1) (a .1 .0 .name) (a .1 .0 .now) (a .1 .1 .0) starts (are .1 .1 .0) 𝓣 known-new known-next known-visit (are .0)))
 
   scan-frames-meets : Meets 𝓤 H A f.signature (WpFn 𝓤 H (𝓣 .C) (𝓣 .Λ) code.function) (f.spec 𝓤 H A mem run)
