@@ -4,11 +4,11 @@ use mathlib.Core.Path.{_≡_, refl, sym, _∙_}
 use mathlib.Core.Bool.{Bool, true, false, cond}
 use Prim.Native.Nat.{ℕ, _^_, _≤_, _<_}
 use lib.Dec.{eqb}
-use lib.Bits.{bitAnd, bitOr, or-zero-r}
-use borrow.Author.Tests.{eqb-true, lt-ltb}
-use Rattle.words.specs.Logic.{by-bool, clash}
+use lib.Bits.{bitAnd, bitOr}
+use borrow.Author.Tests.{eqb-true}
+use Rattle.words.specs.Logic.{by-bool}
 use Rattle.words.specs.Word.{bit}
-use Rattle.words.specs.Mask.{Sub, and-sub, without, without-none, without-mono, put, placed, placed-at, placed-other, placed-past, placed-lt, placed-sub, inside, sub-inside, agree, Agree, agree-sub, agree-bits, bits-agree, masked-bits, bits-masked}
+use Rattle.words.specs.Mask.{Sub, and-sub, without, without-mono, put, put-more, placed, placed-at, placed-other, placed-past, placed-put, placed-lt, placed-sub, agree, Agree, agree-bits, bits-agree, masked-bits, bits-masked}
 
 -- the cube m′, w′ is m, w with two bits replaced at the variable v: the mask's by t, the values' by b
 pub record Replaced (n m w v : ℕ) (t b : Bool) (m′ w′ : ℕ) : Type 0 where
@@ -67,16 +67,6 @@ freed-all-sub {o = o} r s = rw (r .mask, r .values) (without-mono o s)
 
 -- ---- where the variable is one of the n
 
-pub placed-put : {n v : ℕ} (w : ℕ) (b : Bool) → v < n → placed n w v b ≡ put w v b
-unfolding placed
-placed-put {n} {v} w b h = rw (lt-ltb v n h)
-
--- a word that has not the place yet gets it, or stays
-put-more : (w v : ℕ) (b : Bool) → bit w v ≡ false → put w v b ≡ bitOr w (cond b (2 ^ v) 0)
-unfolding put
-put-more w v true h = refl
-put-more w v false h = without-none w v h ∙ sym (or-zero-r w)
-
 module _ {n m w v : ℕ} {b : Bool} {m′ w′ : ℕ} (r : Fixed n m w v b m′ w′) (h : v < n) where
   pub fixed-mask : m′ ≡ bitOr m (2 ^ v)
   unfolding put
@@ -116,10 +106,6 @@ module _ {n m w v : ℕ} {t b : Bool} {m′ w′ : ℕ} (r : Replaced n m w v t 
 
       other : (k : ℕ) → bit m′ k ≡ true → eqb k v ≡ false → bit s k ≡ bit w′ k
       other k e o = let q = replaced-other r k o in y k o (sym (q .0) ∙ e) ∙ sym (q .1)
-
--- values outside the mask agree with nothing
-pub agree-outside : (m w s : ℕ) → inside w m ≡ false → agree m w s ≡ false
-agree-outside m w s h = by-bool (agree m w s) (λ e. clash (inside w m) (sub-inside (agree-sub m w s e)) h) (λ e. e)
 
 -- the made cube's values lie in its mask, and it agrees exactly with the settings that match the word on the mask
 module _ {f x m w : ℕ} (r : Made f x m w) where

@@ -34,7 +34,7 @@ pub fn wide(x: u8) -> u16
 }
 
 // The kind that a frame's four bytes say; a code above 6 gives `Never`.
-pub fn kind_of(code: u8, a: u8, b: u8, c: u8) -> Kind
+fn kind_of(code: u8, a: u8, b: u8, c: u8) -> Kind
     ensures { λ r. ⌜ r ≡ kindOf code a b c ⌝ }
 {
     let x = wide(a);

@@ -12,8 +12,8 @@ use lib.Bits.{bitAnd, bitOr}
 use borrow.Author.Tests.{eqb-true, eq-eqb}
 use Rattle.words.specs.Logic.{by-bool, clash, tests, or-left, or-right, and-both, not-true}
 use Rattle.words.specs.Word.{bit, bit-or, bit-pow, bit-none}
-use Rattle.words.specs.Mask.{Sub, Apart, Top, without, rangeMask, bit-rangeMask, bit-without, sub-bits, bits-sub, bits-apart, apart-bits, apart-sub, apart-sym, sub-trans, without-sub, without-apart, or-sum, sub-le, top-bit, top-rest, sub-split, add-one-sub, one-sub, none-sub, or-apart, put, placed, without-none, sub-antisym, sub-without, sub-refl, and-sub, bits-masked, inside-sub}
-use Rattle.cube.specs.Cube.{Fixed, FreedAll, placed-put}
+use Rattle.words.specs.Mask.{Sub, Apart, Top, without, rangeMask, bit-rangeMask, bit-without, sub-bits, bits-sub, bits-apart, apart-bits, apart-sub, apart-sym, sub-trans, without-sub, without-apart, or-sum, sub-le, top-bit, top-rest, sub-split, add-one-sub, one-sub, none-sub, or-apart, put, placed, placed-put, without-none, sub-antisym, sub-without, sub-refl, and-sub, bits-masked, inside-sub}
+use Rattle.cube.specs.Cube.{Fixed, FreedAll}
 use Rattle.formula.specs.Formula.{Formula, never, input, neg, gate, quant, truth, free}
 use Rattle.formula.specs.Reason.{Explains, explains-neg, gate-left, gate-right, explains-set}
 use Rattle.formula.specs.ReasonWord.{word-never, word-input, word-both, word-decided, word-undecided, word-branch, word-skip, word-values}

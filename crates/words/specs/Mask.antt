@@ -8,7 +8,7 @@ use native.Mathlib.Omega.{arith}
 use lib.Dec.{leb, ltb, eqb}
 use lib.Count.{leadingZeros, leading-top}
 use lib.Pow.{pow-pos, pow-mono, pow-lt, ones-lt, ones-split, high, shl-exact, shl-lt}
-use lib.Bits.{bitAnd, bitOr, bitXor, and-self, and-zero-l, and-zero-r, and-le-r, and-comm, xor-add-and, or-disjoint, or-lt}
+use lib.Bits.{bitAnd, bitOr, bitXor, and-self, and-zero-l, and-zero-r, and-le-r, and-comm, xor-add-and, or-disjoint, or-lt, or-zero-r}
 use Rattle.words.specs.Logic.{by-bool, clash, and-both, or-cases, or-left, or-right, tests}
 use borrow.Author.Tests.{eqb-true, eq-eqb, lt-ltb, le-ltb, ltb-true, ltb-false, leb-true}
 use Rattle.words.specs.Word.{bit, xorb, bit-and, bit-or, bit-xor, bit-high, bit-none, bit-pow, bit-not, bit-range, ext, ext-below}
@@ -295,6 +295,12 @@ add-one-sub {z} {f} x h s =
 pub or-apart : {a b f : ℕ} → Apart a f → Apart b f → Apart (bitOr a b) f
 or-apart {a} {b} {f} s t = apart-bits (bitOr a b) f (λ k e. or-cases (bit a k) (bit b k) (sym (bit-or a b k) ∙ e) (bits-apart s k) (bits-apart t k))
 
+-- a word that has not the place yet gets it, or stays
+pub put-more : (w v : ℕ) (b : Bool) → bit w v ≡ false → put w v b ≡ bitOr w (cond b (2 ^ v) 0)
+unfolding put
+put-more w v true h = refl
+put-more w v false h = without-none w v h ∙ sym (or-zero-r w)
+
 -- ---- `put` where v may lie past the last of n places: then nothing changes
 
 unfoldable pub placed : ℕ → ℕ → ℕ → Bool → ℕ
@@ -317,6 +323,11 @@ placed-other n w v b k e = rw (bit-placed, e, and-false (ltb v n))
 pub placed-past : (n w v : ℕ) (b : Bool) → n ≤ v → placed n w v b ≡ w
 unfolding placed
 placed-past n w v b h = rw (le-ltb v n h)
+
+-- at a place below the width it is put
+pub placed-put : {n v : ℕ} (w : ℕ) (b : Bool) → v < n → placed n w v b ≡ put w v b
+unfolding placed
+placed-put {n} {v} w b h = rw (lt-ltb v n h)
 
 -- what is inside stays inside
 pub placed-sub : {w m : ℕ} (n v : ℕ) (b t : Bool) → (b ≡ true → t ≡ true) → Sub w m → Sub (placed n w v b) (placed n m v t)
@@ -443,6 +454,10 @@ same-and m s t e k h =
 pub agree-sub : (m w s : ℕ) → agree m w s ≡ true → Sub w m
 unfolding agree
 agree-sub m w s e = subst (λ (x : ℕ). Sub x m) (eqb-true (bitAnd s m) w e) (and-sub s m)
+
+-- values outside the mask agree with nothing
+pub agree-outside : (m w s : ℕ) → inside w m ≡ false → agree m w s ≡ false
+agree-outside m w s h = by-bool (agree m w s) (λ e. clash (inside w m) (sub-inside (agree-sub m w s e)) h) (λ e. e)
 
 pub agree-bits : (m w s : ℕ) → agree m w s ≡ true → Agree m w s
 unfolding agree

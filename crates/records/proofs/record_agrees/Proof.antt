@@ -1,8 +1,8 @@
 -- `records::record_agrees` meets its contract: values inside the mask are the cube's own (`made-same`), others agree with nothing. Assumes nothing.
 use mathlib.Core.Path.{sym, _∙_}
 use borrow.Author.Needs.{needs}
-use Rattle.words.specs.Mask.{inside-sub}
-use Rattle.cube.specs.Cube.{made-same, agree-outside}
+use Rattle.words.specs.Mask.{inside-sub, agree-outside}
+use Rattle.cube.specs.Cube.{made-same}
 use Rattle.records.proofs.record_agrees.Statement.{statement}
 use Rattle.records.proofs.record_agrees.Tie as tie
 
