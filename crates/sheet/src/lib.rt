@@ -2,12 +2,13 @@
 pub mod reader;
 pub mod refusal;
 mod rules;
+mod scan;
 
-pub use rules::Checked;
-pub use rules::check;
-pub use rules::check_frames;
 pub use rules::size_fault;
 pub use rules::spare_set;
+pub use scan::Checked;
+pub use scan::check;
+pub use scan::check_frames;
 ghost use mathlib.Core.Path.{_≡_};
 ghost use Rattle.sheet.specs.Frames.{kindOf, kind};
 

@@ -1,10 +1,10 @@
--- `sheet::rules::root_answer` meets its contract: the words have a place in common exactly if the sets do.
+-- `sheet::scan::root_answer` meets its contract: the words have a place in common exactly if the sets do.
 use mathlib.Core.Path.{_∙_}
 use borrow.Author.Tests.{eq-eqb, ne-eqb}
 use Rattle.sheet.specs.Check.{meet-bits}
 use borrow.Author.Needs.{needs}
-use Rattle.sheet.proofs.rules.root_answer.Statement.{statement}
-use Rattle.sheet.proofs.rules.root_answer.Tie as tie
+use Rattle.sheet.proofs.scan.root_answer.Statement.{statement}
+use Rattle.sheet.proofs.scan.root_answer.Tie as tie
 
 refused-requires : tie.Need-refused-requires
 refused-requires c κs = search needs

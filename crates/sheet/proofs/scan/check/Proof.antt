@@ -1,10 +1,10 @@
--- `sheet::rules::check` meets its contract: the size first, then the frames.
+-- `sheet::scan::check` meets its contract: the size first, then the frames.
 use denote.Ref.{now}
 use Rattle.sheet.specs.Check.{same-checks}
 use Rattle.sheet.specs.Pass.{size-none, size-checks, frames-check}
 use borrow.Author.Needs.{needs}
-use Rattle.sheet.proofs.rules.check.Statement.{statement}
-use Rattle.sheet.proofs.rules.check.Tie as tie
+use Rattle.sheet.proofs.scan.check.Statement.{statement}
+use Rattle.sheet.proofs.scan.check.Tie as tie
 
 size-fault-requires : tie.Need-size-fault-requires
 size-fault-requires c κs = search needs

@@ -1,10 +1,10 @@
--- `sheet::rules::visit` meets its contract: the frame is refused, or it is passed.
+-- `sheet::scan::visit` meets its contract: the frame is refused, or it is passed.
 use mathlib.Core.Path.{sym, _∙_}
 use native.Mathlib.Omega.{arith}
 use Rattle.sheet.specs.Pass.{fault-clean, kind-fit, kind-range, pass-read, scan-refuses, scan-passes}
 use borrow.Author.Needs.{needs}
-use Rattle.sheet.proofs.rules.visit.Statement.{statement}
-use Rattle.sheet.proofs.rules.visit.Tie as tie
+use Rattle.sheet.proofs.scan.visit.Statement.{statement}
+use Rattle.sheet.proofs.scan.visit.Tie as tie
 
 fault-of-requires : tie.Need-fault-of-requires
 fault-of-requires c κs = let q = c .before .pre in (q .1, omega (arith, q .0 .most), q .2)

@@ -1,11 +1,11 @@
--- `sheet::rules::pass` meets its contract: the word goes to its place, the range to those bound.
+-- `sheet::scan::pass` meets its contract: the word goes to its place, the range to those bound.
 use mathlib.Core.Path.{ap}
 use denote.Ref.{now}
 use lib.ListN.{set}
 use lib.Bits.{bitOr}
 use borrow.Author.Needs.{needs}
-use Rattle.sheet.proofs.rules.pass.Statement.{statement}
-use Rattle.sheet.proofs.rules.pass.Tie as tie
+use Rattle.sheet.proofs.scan.pass.Statement.{statement}
+use Rattle.sheet.proofs.scan.pass.Tie as tie
 
 free-word-requires : tie.Need-free-word-requires
 free-word-requires c κs = search needs

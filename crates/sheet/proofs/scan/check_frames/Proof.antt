@@ -1,4 +1,4 @@
--- `sheet::rules::check_frames` meets its contract: the pass starts at frame 0, and where it ends is the answer.
+-- `sheet::scan::check_frames` meets its contract: the pass starts at frame 0, and where it ends is the answer.
 use Prim.Native.Nat.{ℕ}
 use native.Mathlib.Omega.{arith}
 use denote.Ref.{now}
@@ -7,8 +7,8 @@ use Rattle.sheet.specs.Accepted.{none-sized}
 use Rattle.sheet.specs.Check.{same-checks}
 use Rattle.sheet.specs.Pass.{scan-starts, root-checks}
 use borrow.Author.Needs.{needs}
-use Rattle.sheet.proofs.rules.check_frames.Statement.{statement}
-use Rattle.sheet.proofs.rules.check_frames.Tie as tie
+use Rattle.sheet.proofs.scan.check_frames.Statement.{statement}
+use Rattle.sheet.proofs.scan.check_frames.Tie as tie
 
 scan-frames-requires : tie.Need-scan-frames-requires
 scan-frames-requires c κs =

@@ -1,10 +1,10 @@
--- `sheet::rules::free_word` meets its contract, arm by arm.
+-- `sheet::scan::free_word` meets its contract, arm by arm.
 use mathlib.Core.Path.{subst}
 use Rattle.sheet.specs.Frames.{Fit}
 use Rattle.sheet.specs.Check.{freeWord}
 use borrow.Author.Needs.{needs}
-use Rattle.sheet.proofs.rules.free_word.Statement.{statement}
-use Rattle.sheet.proofs.rules.free_word.Tie as tie
+use Rattle.sheet.proofs.scan.free_word.Statement.{statement}
+use Rattle.sheet.proofs.scan.free_word.Tie as tie
 
 enum-told : tie.Need-enum-told
 enum-told c = search needs

@@ -1,4 +1,4 @@
--- `sheet::rules::scan_frames` meets its contract: a walk of its MIR, by hand, with a loop. A local holds the reader that `new` returns. In each turn it is lent to `next`, and the words are lent again to `visit`, for a lifetime that is made for the call.
+-- `sheet::scan::scan_frames` meets its contract: a walk of its MIR, by hand, with a loop. A local holds the reader that `new` returns. In each turn it is lent to `next`, and the words are lent again to `visit`, for a lifetime that is made for the call.
 --     State                    what holds before a turn: where the reader stands, and what the pass and the words are
 --     asked, onward, nearer    what a turn takes from one state to the next. They do not mention the code
 --     At                       the state as a context: the loop's invariant.        Nearer   the order of the turns: the frames from the reader on get fewer
@@ -51,11 +51,11 @@ use Rattle.sheet.specs.Frames.{frames, kind}
 use Rattle.sheet.specs.Reader.{following-in}
 use Rattle.sheet.specs.Pass.{Passed, Scanning, Scanned}
 use Rattle.sheet.specs.declared.reader.Reader.{Reader}
-use Rattle.sheet.specs.declared.rules.Scan.{Scan}
+use Rattle.sheet.specs.declared.scan.Scan.{Scan}
 use Rattle.sheet.specs.declared.Frame.{Frame}
 use Rattle.sheet.proofs.ReaderCalls.{New, Next, Says, Cell, Own, value, start, calls-new, calls-next}
-use Rattle.sheet.proofs.rules.Scan as S
-use Rattle.sheet.proofs.rules.Scan.Laws as S′
+use Rattle.sheet.proofs.scan.Scan as S
+use Rattle.sheet.proofs.scan.Scan.Laws as S′
 use Rattle.sheet.proofs.Frame as F
 use Rattle.sheet.proofs.Frame.Laws as F′
 use Rattle.sheet.proofs.reader.new.Symbol as new-def
@@ -64,14 +64,14 @@ use Rattle.sheet.proofs.reader.new.Met as new-thm
 use Rattle.sheet.proofs.reader.next.Symbol as next-def
 use Rattle.sheet.proofs.reader.next.Symbol.{name as #sheet·reader·next}
 use Rattle.sheet.proofs.reader.next.Met as next-thm
-use Rattle.sheet.proofs.rules.visit as visit
-use Rattle.sheet.proofs.rules.visit.Symbol as visit-def
-use Rattle.sheet.proofs.rules.visit.Symbol.{name as #sheet·rules·visit}
-use Rattle.sheet.proofs.rules.visit.Met as visit-thm
-use Rattle.sheet.proofs.rules.scan_frames.Key.{name as #sheet·rules·scan-frames}
-use Rattle.sheet.proofs.rules.scan_frames as f
-use Rattle.sheet.proofs.rules.scan_frames.Statement as stated
-use Rattle.sheet.proofs.rules.scan_frames.Code as code
+use Rattle.sheet.proofs.scan.visit as visit
+use Rattle.sheet.proofs.scan.visit.Symbol as visit-def
+use Rattle.sheet.proofs.scan.visit.Symbol.{name as #sheet·scan·visit}
+use Rattle.sheet.proofs.scan.visit.Met as visit-thm
+use Rattle.sheet.proofs.scan.scan_frames.Key.{name as #sheet·scan·scan-frames}
+use Rattle.sheet.proofs.scan.scan_frames as f
+use Rattle.sheet.proofs.scan.scan_frames.Statement as stated
+use Rattle.sheet.proofs.scan.scan_frames.Code as code
 
 -- the type of the words
 abbrev slot : Slot 2
@@ -215,7 +215,7 @@ module _ {M : Type 1} (𝓤 : URA M) (H : Heap 𝓤) (A : Atoms 𝓤) (W : Given
         ∷ ‵ (fdies (ty 0) m₀) ∷ ‵ (fdies (ty 1) m₁) ∷ ‵ (fdies (ty 2) m₂) ∷ ‵ (fdies (ty 3) m₃) ∷ ‵ (fdies (ty 4) m₄)
         ∷ ‵ (fdies (ty 5) m₅) ∷ ‵ (fdies (ty 6) m₆) ∷ ‵ (fdies (ty 7) m₇) ∷ ‵ (fdies (ty 8) m₈) ∷ ‵ (fdies (ty 9) m₉) ∷ []
 
-  module _ (𝓣 : Tables 𝓤 H) (known-new : Triple 𝓤 (𝓣 .C #sheet·reader·new) (New 𝓤 H A at-mem run)) (known-next : Triple 𝓤 (𝓣 .C #sheet·reader·next) (Next 𝓤 H A at-mem run)) (known-visit : Triple 𝓤 (𝓣 .C #sheet·rules·visit) (Visit 𝓤 H A at-mem run)) where
+  module _ (𝓣 : Tables 𝓤 H) (known-new : Triple 𝓤 (𝓣 .C #sheet·reader·new) (New 𝓤 H A at-mem run)) (known-next : Triple 𝓤 (𝓣 .C #sheet·reader·next) (Next 𝓤 H A at-mem run)) (known-visit : Triple 𝓤 (𝓣 .C #sheet·scan·visit) (Visit 𝓤 H A at-mem run)) where
     walk : Is (ShrSlice (named 0) κ u8) s (value s ∷ []) → ent 𝓤 (onEntry 𝓤 H A f.signature (κ, (ρ, tt)) (q, (p, tt)) x at) (WpFn 𝓤 H (𝓣 .C) (𝓣 .Λ) code.function (value s ∷ vptr b o ∷ S′.lowered z₀ ∷ []) Post)
     unfolding afterTurn
     walk s-is =
@@ -271,7 +271,7 @@ module _ {M : Type 1} (𝓤 : URA M) (H : Heap 𝓤) (A : Atoms 𝓤) (W : Given
         (record { reader = start s 0; scan = z₀; words = l₀; bytes-is = refl; scanning = starts; scan-is = z₀-is }))))))))))))
 
 module _ {M : Type 1} (𝓤 : URA M) (H : Heap 𝓤) (A : Atoms 𝓤) (W : Given 𝓤 H A) (mem : Memory → SProp 𝓤) (run : Routine → Fun 𝓤) (𝓣 : Tables 𝓤 H)
-    (known-new : Triple 𝓤 (𝓣 .C #sheet·reader·new) (New 𝓤 H A mem run)) (known-next : Triple 𝓤 (𝓣 .C #sheet·reader·next) (Next 𝓤 H A mem run)) (known-visit : Triple 𝓤 (𝓣 .C #sheet·rules·visit) (Visit 𝓤 H A mem run)) where
+    (known-new : Triple 𝓤 (𝓣 .C #sheet·reader·new) (New 𝓤 H A mem run)) (known-next : Triple 𝓤 (𝓣 .C #sheet·reader·next) (Next 𝓤 H A mem run)) (known-visit : Triple 𝓤 (𝓣 .C #sheet·scan·visit) (Visit 𝓤 H A mem run)) where
   scan-frames-walks : Walks 𝓤 H A f.ended stayed (WpFn 𝓤 H (𝓣 .C) (𝓣 .Λ) code.function) (f.clauses 𝓤 H A mem run)
   scan-frames-walks = walked 𝓤 H A f.ended stayed (f.clauses 𝓤 H A mem run) (WpFn 𝓤 H (𝓣 .C) (𝓣 .Λ) code.function)
       (λ κs. (slice-vals, (ptr-vals, ((λ (z : Scan). S′.lowered z ∷ []), tt)))) (λ κs. (shr-slice-tells (named 0) (κs .0) u8, (mut-tells (named 1) (κs .1 .0) Words, (S′.lowers .val-is, tt))))
@@ -286,8 +286,8 @@ pub scan-frames-spec : {M : Type 1} → stated.statement M
 unfolding code.routine tablesOf
 scan-frames-spec 𝓤 H 𝓜 𝓖 𝓡 =
     entered 𝓤 H (tripleOf 𝓤 H (𝓖 .A) f.signature (f.spec 𝓤 H (𝓖 .A) (𝓜 .mem) (𝓡 .run)))
-    (tables 𝓤 H 𝓜 𝓡 code.env .C) (tables 𝓤 H 𝓜 𝓡 code.env .Λ) #sheet·rules·scan-frames code.function (code.unfolded 𝓤 H 𝓜 𝓡)
+    (tables 𝓤 H 𝓜 𝓡 code.env .C) (tables 𝓤 H 𝓜 𝓡 code.env .Λ) #sheet·scan·scan-frames code.function (code.unfolded 𝓤 H 𝓜 𝓡)
     (scan-frames-meets 𝓤 H (𝓖 .A) (givenOf 𝓤 H 𝓜 𝓖) (𝓜 .mem) (𝓡 .run) (tablesOf 𝓤 H 𝓜 (tables 𝓤 H 𝓜 𝓡 code.env))
     (cited 𝓤 H (New 𝓤 H (𝓖 .A) (𝓜 .mem) (𝓡 .run)) 𝓜 𝓡 code.env #sheet·reader·new new-def.routine code.calls-sheet·reader·new (new-thm.met 𝓤 H 𝓜 𝓖 𝓡))
     (cited 𝓤 H (Next 𝓤 H (𝓖 .A) (𝓜 .mem) (𝓡 .run)) 𝓜 𝓡 code.env #sheet·reader·next next-def.routine code.calls-sheet·reader·next (next-thm.met 𝓤 H 𝓜 𝓖 𝓡))
-    (cited 𝓤 H (Visit 𝓤 H (𝓖 .A) (𝓜 .mem) (𝓡 .run)) 𝓜 𝓡 code.env #sheet·rules·visit visit-def.routine code.calls-sheet·rules·visit (visit-thm.met 𝓤 H 𝓜 𝓖 𝓡)))
+    (cited 𝓤 H (Visit 𝓤 H (𝓖 .A) (𝓜 .mem) (𝓡 .run)) 𝓜 𝓡 code.env #sheet·scan·visit visit-def.routine code.calls-sheet·scan·visit (visit-thm.met 𝓤 H 𝓜 𝓖 𝓡)))
