@@ -79,7 +79,7 @@ enum hammerloom_line_refusal {
     HAMMERLOOM_LINE_REFUSED_PLACE = 17     /* READ: no entry at that place */
 };
 
-/* The refusal number, one of enum hammerloom_refusal, and the place of a result. */
+/* The refusal number, one of enum hammerloom_refusal, and the place of a result, a frame's number and so below 200. */
 #define HAMMERLOOM_REFUSAL(result) ((unsigned)((uint32_t)(result) >> 8))
 #define HAMMERLOOM_PLACE(result) ((unsigned)((uint32_t)(result)&0xFFu))
 
