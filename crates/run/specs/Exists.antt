@@ -8,8 +8,8 @@ use mathlib.Core.Bool.{Bool, true, false, _&&_}
 use mathlib.Core.List.{List, [], _++_}
 use lib.ListN.{length, drop}
 use lib.Dec.{eqb, ltb}
-use borrow.Author.Tests.{eq-eqb}
-use Rattle.words.specs.Logic.{by-bool, clash, and-both, or-left, tests}
+use borrow.Author.Tests.{eq-eqb, eqb-true}
+use Rattle.words.specs.Logic.{by-bool, clash, and-both, and-intro, tests}
 use Rattle.words.specs.Word.{bit}
 use Rattle.words.specs.Mask.{Sub, sub-refl, sub-bits, bits-sub, bits-agree}
 use Rattle.formula.specs.Formula.{Formula, free}
@@ -82,21 +82,30 @@ module _ (sheet script : List ℕ) (K : Keeps sheet) (i : ℕ) where
     next : Held
     line : LineRecords sheet script i h next
 
-  -- it is an ASK, and is answered
+  -- the kind of line that keeps a record, if it is answered
+  abbrev keeper : ℕ
+  keeper = ASK
+
+  abbrev isAsk : Bool
+  isAsk = eqb (kindAt script i) keeper
+
+  abbrev isAnswered : Bool
+  isAnswered = eqb (answerAt (book sheet) [] script i .number) 0
+
   abbrev asks : Bool
-  asks = eqb (kindAt script i) ASK && eqb (answerAt (book sheet) [] script i .number) 0
+  asks = isAsk && isAnswered
 
   module _ (h : Held) (t : RecordsTrue sheet h) where
     -- records that grew by the one that the verdict calls for
     asked-next : asks ≡ true → (h' : Held) → Grows sheet h h' → Promised-at sheet script i h' → Next h
     asked-next e h' g p =
-        let q = and-both (eqb (kindAt script i) ASK) (eqb (answerAt (book sheet) [] script i .number) 0) e in
+        let q = and-both isAsk isAnswered e in
         record {
           next = h';
           line = record {
             grows = g;
             refused = λ r. absurd (omega (tests, q .1));
-            quiet = λ z. clash (searches (kindAt script i)) (or-left (eqb (kindAt script i) ASK) _ (q .0)) z;
+            quiet = λ z. clash (searches (kindAt script i)) (rw (eqb-true (kindAt script i) keeper (q .0))) z;
             promised = λ a. p;
           };
         }
@@ -129,7 +138,7 @@ module _ (sheet script : List ℕ) (K : Keeps sheet) (i : ℕ) where
         grows = grows-none h t;
         refused = λ r. refl;
         quiet = λ z. refl;
-        promised = λ a. clash asks (rw (eq-eqb (kindAt script i) ASK (a .kind), eq-eqb _ 0 (a .taken))) e;
+        promised = λ a. clash asks (and-intro isAsk isAnswered (eq-eqb _ _ (a .kind)) (eq-eqb _ _ (a .taken))) e;
       };
     }
 
