@@ -9,8 +9,10 @@ pub mod Same
 pub mod Verdicts
 pub mod Certificate
 pub mod CertificateScripts
+pub mod CertificateSession
 pub mod Panel
 pub mod PanelHolds
 pub mod Written
+pub mod Course
 pub mod Progress
 pub mod Checking

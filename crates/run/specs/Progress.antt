@@ -3,16 +3,17 @@ use Prim.Native.Nat.{ℕ, _+_, _*_, _≤_, _<_}
 use native.Mathlib.Omega.{arith}
 use mathlib.Core.Path.{_≡_, refl, sym, ap, _∙_}
 use mathlib.Core.List.{List, [], _++_}
-use lib.ListN.{length, getD, drop, length-append, length-drop}
+use lib.ListN.{length, drop, length-append, length-drop}
 use Rattle.sheet.specs.Cause.{Refusal, first-none}
 use Rattle.sheet.specs.Check.{Checks}
 use Rattle.session.specs.declared.Session.{Session}
 use Rattle.session.specs.Model.{Answer, answerLength, answerBytes, lines, lineAt, line, answerAt, answersTo, answers}
-use Rattle.session.specs.Script.{after-none, after-next, answers-none, answers-next, length-answerBytes, length-answersTo}
-use Rattle.session.specs.Sound.{standingOf, Checked, Sound, Empty, empty-standing, empty-sound}
-use Rattle.session.specs.Step.{Tells, Untouched, Step}
+use Rattle.session.specs.Script.{answers-none, answers-next, length-answerBytes, length-answersTo}
+use Rattle.session.specs.Sound.{standingOf, Checked, Sound, Empty, empty-sound}
+use Rattle.session.specs.Step.{Tells, Untouched}
 use Rattle.run.specs.Run.{causes, book, before, Held, asLent, Grows, LineRecords, History, Run}
 use Rattle.run.specs.History.{lent-true, history-none, history-next, history-grows}
+use Rattle.run.specs.Course.{StepAt, Course, begun, course-next, course-stands}
 use Rattle.run.specs.Accept.{Proper, causes-numbered, number-proper, proper-accepted}
 use Rattle.run.specs.Before.{kept-accepted}
 use Rattle.run.specs.Written.{written, written-next}
@@ -20,8 +21,7 @@ use Rattle.run.specs.Written.{written, written-next}
 -- Line i: the session steps, and the answer's bytes are written at their place. Session and buffers before and, primed, after it.
 pub record LineRun (s script : List ℕ) (free i : ℕ) (x : Session) (ans u o : List ℕ) (x' : Session) (ans' u' o' : List ℕ) : Type 0 where
   pub answer : Answer
-  pub step : Step s free x u o (getD script (i * 4) 0) (getD script (i * 4 + 1) 0) (getD script (i * 4 + 2) 0) (getD script (i * 4 + 3) 0) x' u' o'
-      (answer .number) (answer .v) (answer .word)
+  pub step : StepAt s script free i x u o x' u' o' answer
   pub put : ans' ≡ written ans (i * 6) (answerBytes answer)
 
 -- the records that the session x counts in the tables u and o
@@ -31,7 +31,7 @@ recordsOf x u o = record { under = u; cu = x .under; over = o; co = x .over }
 -- After the first i lines of a run: session and buffers; ans, under and over are the buffers at the start.
 pub record Progress (s script : List ℕ) (free : ℕ) (ans under over : List ℕ) (i : ℕ) (x : Session) (ans' u o : List ℕ) : Type 0 where
   pub sound : Sound s free x u o
-  pub stands : standingOf x ≡ before s script i
+  pub course : Course s script free i x
   pub told : ans' ≡ answersTo (book s) [] script i ++ drop (answerLength * i) ans
   pub history : History s script i (asLent under over) (recordsOf x u o)
 
@@ -42,7 +42,7 @@ progress-none {s} {script} {x = x} ans under over k e =
     let d = empty-sound under over k e in
     record {
       sound = d;
-      stands = empty-standing e ∙ sym (after-none (book s) [] script);
+      course = begun e;
       told = rw (answers-none (book s) [] script);
       history = rw (e .under, e .over) (history-none (asLent under over));
     }
@@ -58,10 +58,13 @@ told-whole b a t =
 
 module _ {s script : List ℕ} {free : ℕ} {ans under over : List ℕ} {i : ℕ} {x x' : Session} {ans₁ u o ans₂ u' o' : List ℕ}
     (g : Progress s script free ans under over i x ans₁ u o) (t : LineRun s script free i x ans₁ u o x' ans₂ u' o') where
+  stands : standingOf x ≡ before s script i
+  stands = course-stands (g .course)
+
   -- the answer is the reference model's
   answer-told : t .answer ≡ answerAt (book s) [] script i
   unfolding answerAt lineAt
-  answer-told = told-whole (t .answer) _ (t .step .tells) ∙ rw (g .stands)
+  answer-told = told-whole (t .answer) _ (t .step .tells) ∙ rw stands
 
   next-told : ans₂ ≡ answersTo (book s) [] script (i + 1) ++ drop (answerLength * (i + 1)) ans
   next-told =
@@ -84,14 +87,13 @@ module _ {s script : List ℕ} {free : ℕ} {ans under over : List ℕ} {i : ℕ
     grows = t .step .kept;
     refused = λ h. same-records (t .step .refused-same (omega (arith, number-told)));
     quiet = λ h. same-records (t .step .quiet-same h);
-    promised = λ a. rw (← g .stands) (t .step .promised (number-told ∙ a .taken) (a .kind));
+    promised = λ a. rw (← stands) (t .step .promised (number-told ∙ a .taken) (a .kind));
   }
 
   pub progress-next : Progress s script free ans under over (i + 1) x' ans₂ u' o'
-  unfolding lineAt
   progress-next = record {
     sound = t .step .sound;
-    stands = t .step .stands ∙ rw (g .stands, after-next (book s) [] script i);
+    course = course-next (g .course) (record { under = u; over = o; under' = u'; over' = o'; answer = t .answer; step = t .step });
     told = next-told;
     history = history-next (g .history) line-records;
   }

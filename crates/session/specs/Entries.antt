@@ -146,6 +146,11 @@ module _ {m : Meaning} {es : List Entry} (n : ℕ) (below : (x : ℕ) → m .ope
 
 -- ---- the entries' words
 
+-- mask and values are the words of the entries es
+pub record Words (es : List Entry) (mask values : ℕ) : Type 0 where
+  pub mask-is : mask ≡ enteredMask es
+  pub values-are : values ≡ enteredValues es
+
 or-assoc : (a b c : ℕ) → bitOr (bitOr a b) c ≡ bitOr a (bitOr b c)
 or-assoc a b c = ext (bitOr (bitOr a b) c) (bitOr a (bitOr b c)) (λ k. simp bit-or (go (bit a k) (bit b k) (bit c k)))
   where
@@ -188,6 +193,9 @@ value-none es k f = by-bool (bit (enteredValues es) k) (λ t. clash (entered es 
 pub values-mask : (es : List Entry) → Sub (enteredValues es) (enteredMask es)
 values-mask es = sub-bits (enteredValues es) (enteredMask es) (λ k t. bit-enteredMask es k ∙ bit-value es k t)
 
+pub words-valued : {es : List Entry} {mask values : ℕ} → Words es mask values → Sub values mask
+words-valued {es} w = rw (w .mask-is, w .values-are) (values-mask es)
+
 -- ---- over a formula's meaning
 
 pub opens-below : (n : ℕ) (f : Formula) (x : ℕ) → meaning n f .opens x ≡ true → x < n
@@ -205,6 +213,9 @@ module _ (n : ℕ) (f : Formula) {es : List Entry} (d : Entered (meaning n f) es
   mask-free = sub-bits (enteredMask es) (freeMask n f) (λ k t.
       let r = entered-find es k (sym (bit-enteredMask es k) ∙ t) in
       bit-opens n f k ∙ (rw (r .2) at (d .opened (r .0) (r .1))))
+
+  pub words-opened : {mask values : ℕ} → Words es mask values → Sub mask (freeMask n f)
+  words-opened w = rw (w .mask-is) mask-free
 
   pub mask-lt : enteredMask es < 2 ^ n
   unfolding freeMask

@@ -15,11 +15,15 @@ use Rattle.solver.specs.Contract.{root, Tables, Ready}
 use Rattle.session.specs.declared.Entry.{Entry}
 use Rattle.session.specs.declared.Session.{Session}
 use Rattle.session.specs.Model.{Meaning, meaning, noEntry, enteredMask, enteredValues, entered}
-use Rattle.session.specs.Entries.{Entered, entryAt, none-entered, not-earlier, opens-below, bit-opens, mask-free, values-mask}
+use Rattle.session.specs.Entries.{Entered, Words, words-valued, words-opened, entryAt, none-entered, not-earlier, opens-below, bit-opens}
 
 -- the entries that stand, oldest first
 abbrev pub standingOf : Session → List Entry
 standingOf x = take (x .len) (x .entries)
+
+-- the cube that the session keeps is that of the entries that stand
+abbrev pub WordsKept : Session → Type 0
+WordsKept x = Words (standingOf x) (x .entered .mask) (x .entered .values)
 
 -- what the reference model takes from a sheet: the meaning of its last frame
 abbrev pub sheetMeaning : List ℕ → Meaning
@@ -32,19 +36,27 @@ pub record Checked (s : List ℕ) (free : ℕ) : Type 0 where
   pub few : frames s ≤ 200
   pub opens : free ≡ freeMask 32 (root s)
 
--- the array has its length, and as many entries stand as there are variables at most, each of one that no earlier entry has
+-- the array has its length, and as many entries stand as there are variables at most, each of one that no earlier entry has; their words are kept
 pub record Shaped (x : Session) : Type 0 where
   pub cells : length (x .entries) ≡ 32
   pub within : x .len ≤ 32
   pub low : (i : ℕ) → i < x .len → entryAt (x .entries) i .variable < 32
   pub fresh : (i : ℕ) → i < x .len → entered (take i (x .entries)) (entryAt (x .entries) i .variable) ≡ false
+  pub words : WordsKept x
 
--- s with free is checked; entries are of open variables, distinct, and valued 0 or 1; the counted records are within the tables u and o, and true
+-- v is a variable, and no entry of it stands
+pub record Fresh (x : Session) (v : ℕ) : Type 0 where
+  pub low : v < 32
+  pub absent : entered (standingOf x) v ≡ false
+
+-- s with free is checked; entries are of open variables, distinct, and valued 0 or 1, and their words are kept; the counted records are within the
+-- tables u and o, and true
 pub record Sound (s : List ℕ) (free : ℕ) (x : Session) (u o : List ℕ) : Type 0 where
   pub sheet : Checked s free
   pub cells : length (x .entries) ≡ 32
   pub within : x .len ≤ 32
   pub entered : Entered (sheetMeaning s) (standingOf x)
+  pub words : WordsKept x
   pub tables : Tables s u (x .under) o (x .over)
 
 -- ---- the entries
@@ -62,6 +74,7 @@ module _ {s : List ℕ} {free : ℕ} {x : Session} {u o : List ℕ} (d : Sound s
     within = d .within;
     low = λ i h. opens-below variables (root s) _ (rw (getD-take (x .len) (x .entries) i noEntry h) at (d .entered .opened i (rw sound-length h)));
     fresh = λ i h. rw (take-take i (x .len) (x .entries) (omega arith), getD-take (x .len) (x .entries) i noEntry h) at (not-earlier i (d .entered) (rw sound-length h));
+    words = d .words;
   }
 
   -- what the model calls open is what the word of the free variables has
@@ -69,14 +82,14 @@ module _ {s : List ℕ} {free : ℕ} {x : Session} {u o : List ℕ} (d : Sound s
   sound-opens v = sym (rw (d .sheet .opens) (bit-opens variables (root s) v))
 
   -- as the solver wants its entries
-  pub sound-ready : Ready s free (enteredMask (standingOf x)) (enteredValues (standingOf x)) u (x .under) o (x .over)
+  pub sound-ready : Ready s free (x .entered .mask) (x .entered .values) u (x .under) o (x .over)
   sound-ready = record {
     ordered = d .sheet .ordered;
     some = d .sheet .some;
     few = d .sheet .few;
     opens = d .sheet .opens;
-    entered = rw (d .sheet .opens) (mask-free variables (root s) (d .entered));
-    valued = values-mask (standingOf x);
+    entered = rw (d .sheet .opens) (words-opened variables (root s) (d .entered) (d .words));
+    valued = words-valued (d .words);
     tables = d .tables;
   }
 
@@ -85,11 +98,17 @@ module _ {s : List ℕ} {free : ℕ} {x : Session} {u o : List ℕ} (d : Sound s
 pub record Empty (x : Session) : Type 0 where
   pub cells : length (x .entries) ≡ 32
   pub none : x .len ≡ 0
+  pub mask : x .entered .mask ≡ 0
+  pub values : x .entered .values ≡ 0
   pub under : x .under ≡ 0
   pub over : x .over ≡ 0
 
 pub empty-standing : {x : Session} → Empty x → standingOf x ≡ []
 empty-standing e = rw (e .none)
+
+pub empty-words : {x : Session} → Empty x → WordsKept x
+unfolding enteredMask enteredValues
+empty-words e = rw (e .none) (record { mask-is = e .mask; values-are = e .values })
 
 -- the empty session is sound, with any tables
 pub empty-sound : {s : List ℕ} {free : ℕ} {x : Session} (u o : List ℕ) → Checked s free → Empty x → Sound s free x u o
@@ -98,5 +117,6 @@ empty-sound {s} {x = x} u o k e = record {
   cells = e .cells;
   within = omega (arith, e .none);
   entered = rw (empty-standing e) (none-entered (sheetMeaning s));
+  words = empty-words e;
   tables = rw (e .under, e .over) (record { under = valid-empty (formula s) (frames s) _ u; over = valid-empty (formula s) (frames s) _ o });
 }

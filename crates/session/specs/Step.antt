@@ -12,7 +12,7 @@ use Rattle.solver.specs.Contract.{root, TablesGrown, Promised}
 use Rattle.session.specs.declared.Entry.{Entry}
 use Rattle.session.specs.declared.Session.{Session}
 use Rattle.session.specs.Model.{Answer, Reply, judged, enteredMask, enteredValues, ASK, WHY, line}
-use Rattle.session.specs.Sound.{standingOf, sheetMeaning, Sound}
+use Rattle.session.specs.Sound.{standingOf, WordsKept, sheetMeaning, Sound}
 
 -- what ASK and WHY say of a sheet where the entries es stand
 abbrev pub askOf : List ℕ → List Entry → Verdict
@@ -25,22 +25,18 @@ whyOf s es = why variables (root s) (enteredMask es) (enteredValues es)
 abbrev pub PromisedFor : List ℕ → List Entry → List ℕ → ℕ → List ℕ → ℕ → Type 0
 PromisedFor s es u cu o co = Promised s (enteredMask es) (enteredValues es) (askOf s es) u cu o co
 
--- the words of the entries es
-pub record Words (es : List Entry) (mask values : ℕ) : Type 0 where
-  pub mask-is : mask ≡ enteredMask es
-  pub values-are : values ≡ enteredValues es
-
 -- an answer's number, V and word
 pub record Tells (a : Answer) (number v word : ℕ) : Type 0 where
   pub number-is : number ≡ a .number
   pub v-is : v ≡ a .v
   pub word-is : word ≡ a .word
 
--- x' has the entries es standing, and counts the records that x counts
+-- x' has the entries es standing and keeps their words, and counts the records that x counts
 pub record Moved (x x' : Session) (es : List Entry) : Type 0 where
   pub cells : length (x' .entries) ≡ 32
   pub within : x' .len ≤ 32
   pub stands : standingOf x' ≡ es
+  pub words : WordsKept x'
   pub under : x' .under ≡ x .under
   pub over : x' .over ≡ x .over
 
@@ -49,10 +45,11 @@ pub record Replies (x : Session) (y : Reply) (x' : Session) (number v word : ℕ
   pub tells : Tells (y .answer) number v word
   pub moved : Moved x x' (y .entries)
 
--- x' has the entries of x, and counts cu and co records
+-- x' has the entries of x and their words, and counts cu and co records
 pub record Recounted (x : Session) (cu co : ℕ) (x' : Session) : Type 0 where
   pub entries : x' .entries ≡ x .entries
   pub len : x' .len ≡ x .len
+  pub entered : x' .entered ≡ x .entered
   pub under : x' .under ≡ cu
   pub over : x' .over ≡ co
 
@@ -61,6 +58,7 @@ pub record Searches (s : List ℕ) (x : Session) (u o : List ℕ) (a : Verdict) 
   pub tells : Tells (judged a) number v word
   pub entries : x' .entries ≡ x .entries
   pub len : x' .len ≡ x .len
+  pub entered : x' .entered ≡ x .entered
   pub kept : TablesGrown s u (x .under) o (x .over) u' (x' .under) o' (x' .over)
 
 -- the tables and the counts are as they were

@@ -1,47 +1,71 @@
 -- From what the functions of each kind of line give to the contract of a line. Assumes nothing.
-use Prim.Native.Nat.{ℕ, _+_, _-_, _<_}
+use Prim.Native.Nat.{ℕ, suc, _+_, _-_, _<_}
 use native.Mathlib.Omega.{arith}
 use native.Mathlib.Numerals.{add-one}
-use mathlib.Core.Path.{_≡_, refl, sym, _∙_}
+use mathlib.Core.Path.{_≡_, refl, sym, ap, _∙_}
 use mathlib.Core.Bool.{Bool, true, false, _||_}
 use mathlib.Core.List.{List, [], _∷_, _++_}
-use lib.ListN.{length, take, length-append}
-use lib.Seq.{take-suc}
+use lib.ListN.{length, set, take, length-append}
+use lib.Seq.{take-suc, take-suc-set}
 use lib.Dec.{eqb, ltb}
 use Rattle.words.specs.Logic.{clash, or-false, tests}
 use Rattle.words.specs.Word.{bit}
-use Rattle.cube.specs.Cube.{Fixed, fixed-mask, fixed-values}
+use Rattle.words.specs.Mask.{without-more}
+use Rattle.cube.specs.Cube.{Fixed, Freed, fixed-mask, fixed-values, freed-one}
 use Rattle.formula.specs.Ask.{Verdict}
 use Rattle.sheet.specs.Rules.{variables, spareSet}
 use Rattle.records.specs.Table.{grown-refl}
-use Rattle.solver.specs.Contract.{root, Ready, TablesGrown, Same}
+use Rattle.solver.specs.Contract.{root, TablesGrown, Same}
 use Rattle.session.specs.declared.Entry.{Entry}
 use Rattle.session.specs.declared.Session.{Session}
 use Rattle.session.specs.Model.{Meaning, meaning, Reply, reply, refused, counted, told, judged, noEntry, enteredMask, enteredValues, entered, ENTER, TAKE-BACK, READ, ASK, WHY, used, unknown, lineRefusal, obeyed, line}
-use Rattle.session.specs.Entries.{entryAt, entered-more, entries-at-most, mask-snoc, values-snoc, value-none}
+use Rattle.session.specs.Entries.{Words, entryAt, entered-more, entries-at-most, opens-below, mask-snoc, values-snoc, bit-enteredMask, value-none}
 use Rattle.session.specs.Line.{Passes, refusal-none, line-refused, line-taken}
 use Rattle.session.specs.Invariant.{line-keeps}
-use Rattle.session.specs.Sound.{standingOf, sheetMeaning, Sound, sound-length, sound-ready}
-use Rattle.session.specs.Step.{askOf, whyOf, PromisedFor, Words, Tells, Replies, Recounted, Searches, Untouched, searches, Step}
+use Rattle.session.specs.Sound.{standingOf, sheetMeaning, Shaped, Fresh, Sound, sound-length}
+use Rattle.session.specs.Step.{askOf, whyOf, PromisedFor, Tells, Replies, Recounted, Searches, Untouched, searches, Step}
 
--- ---- the entries' words, entry by entry
+-- ---- the entries' words, one entry more and one less
 
-pub words-none : Words [] 0 0
-unfolding enteredMask enteredValues
-words-none = record { mask-is = refl; values-are = refl }
+module _ {mask values mask' values' : ℕ} (es : List Entry) (e : Entry) (low : e .variable < 32) (absent : entered es (e .variable) ≡ false) where
+  -- no value is replaced: no other entry is of the variable
+  pub words-more : Words es mask values → Fixed 32 mask values (e .variable) (eqb (e .value) 1) mask' values' → Words (es ++ (e ∷ [])) mask' values'
+  words-more w F =
+      let none : bit values (e .variable) ≡ false = rw (w .values-are) (value-none es (e .variable) absent) in
+      record {
+        mask-is = rw (mask-snoc es e) (fixed-mask F low ∙ rw (w .mask-is));
+        values-are = rw (values-snoc es e) (fixed-values F low none ∙ rw (w .values-are));
+      }
 
--- no value is replaced where no earlier entry is of the variable
-pub words-next : {mask values mask' values' : ℕ} (l : List Entry) (i : ℕ) → i < length l → entryAt l i .variable < 32
-    → entered (take i l) (entryAt l i .variable) ≡ false → Words (take i l) mask values
-    → Fixed 32 mask values (entryAt l i .variable) (eqb (entryAt l i .value) 1) mask' values' → Words (take (i + 1) l) mask' values'
-words-next {values = values} l i h low fresh w F =
-    let t = take-suc l i noEntry h in
-    let x = entryAt l i .variable in
-    let none : bit values x ≡ false = rw (w .values-are) (value-none (take i l) x fresh) in
-    record {
-      mask-is = rw (add-one, t, mask-snoc (take i l) (entryAt l i)) (fixed-mask F low ∙ rw (w .mask-is));
-      values-are = rw (add-one, t, values-snoc (take i l) (entryAt l i)) (fixed-values F low none ∙ rw (w .values-are));
-    }
+  -- both its bits go, and no other
+  pub words-less : Words (es ++ (e ∷ [])) mask values → Freed 32 mask values (e .variable) mask' values' → Words es mask' values'
+  words-less w F =
+      let G = freed-one low F in
+      let unmasked : bit (enteredMask es) (e .variable) ≡ false = bit-enteredMask es (e .variable) ∙ absent in
+      let unvalued : bit (enteredValues es) (e .variable) ≡ false = value-none es (e .variable) absent in
+      record {
+        mask-is = G .mask ∙ rw (w .mask-is, mask-snoc es e) (without-more (enteredMask es) (e .variable) true unmasked);
+        values-are = G .values ∙ rw (w .values-are, values-snoc es e) (without-more (enteredValues es) (e .variable) (eqb (e .value) 1) unvalued);
+      }
+
+-- in a session: an entry put last, and the latest one struck
+module _ {x : Session} {mask' values' : ℕ} where
+  pub words-put : (e : Entry) → Shaped x → x .len < 32 → Fresh x (e .variable)
+      → Fixed 32 (x .entered .mask) (x .entered .values) (e .variable) (eqb (e .value) 1) mask' values'
+      → Words (take (x .len + 1) (set (x .entries) (x .len) e)) mask' values'
+  words-put e d room f F =
+      rw (add-one, take-suc-set (x .entries) (x .len) e (omega (arith, d .cells))) (words-more (standingOf x) e (f .low) (f .absent) (d .words) F)
+
+  pub words-struck : Shaped x → 0 < x .len
+      → Freed 32 (x .entered .mask) (x .entered .values) (entryAt (x .entries) (x .len - 1) .variable) mask' values'
+      → Words (take (x .len - 1) (x .entries)) mask' values'
+  words-struck d some F =
+      let n = x .len - 1 in
+      let h : n < x .len = omega arith in
+      let l : suc n ≡ x .len = omega arith in
+      let front = take-suc (x .entries) n noEntry (omega (arith, d .cells, d .within)) in
+      let t : standingOf x ≡ take n (x .entries) ++ (entryAt (x .entries) n ∷ []) = ap (λ (k : ℕ). take k (x .entries)) (sym l) ∙ front in
+      words-less (take n (x .entries)) (entryAt (x .entries) n) (d .low n h) (d .fresh n h) (rw t at (d .words)) F
 
 -- ---- a verdict told by its two parts
 
@@ -62,12 +86,9 @@ searched e k r t = record {
   tells = same-tells e t;
   entries = r .entries;
   len = r .len;
+  entered = r .entered;
   kept = rw (r .under, r .over) k;
 }
-
-pub words-ready : {s : List ℕ} {free mask values : ℕ} {x : Session} {u o : List ℕ} → Sound s free x u o → Words (standingOf x) mask values
-    → Ready s free mask values u (x .under) o (x .over)
-words-ready d w = rw (w .mask-is, w .values-are) (sound-ready d)
 
 -- ---- a line of each kind
 
@@ -93,6 +114,7 @@ module _ {s : List ℕ} {free : ℕ} {x : Session} {u o : List ℕ} (d : Sound s
           cells = M .cells;
           within = M .within;
           entered = rw (M .stands) (line-keeps m es k a b c (d .entered));
+          words = M .words;
           tables = t;
         };
         kept = record { tables = t; under = rw (M .under) (grown-refl u (x .under)); over = rw (M .over) (grown-refl o (x .over)) };
@@ -120,6 +142,9 @@ module _ {s : List ℕ} {free : ℕ} {x : Session} {u o : List ℕ} (d : Sound s
     enter-room e =
         let D = entered-more (record { variable = a; value = b }) (d .entered) (passes .fresh e) (passes .opened e) (passes .valued e) in
         omega (arith, simp length-append at (entries-at-most variables (root s) D), sound-length d)
+
+    pub enter-fresh : k ≡ ENTER → Fresh x a
+    enter-fresh e = record { low = opens-below variables (root s) a (passes .opened e); absent = passes .fresh e }
 
     pub take-back-some : k ≡ TAKE-BACK → 0 < x .len
     take-back-some e = omega (arith, passes .standing e, sound-length d)
@@ -161,6 +186,7 @@ module _ {s : List ℕ} {free : ℕ} {x : Session} {u o : List ℕ} (d : Sound s
             cells = rw (r .entries) (d .cells);
             within = rw (r .len) (d .within);
             entered = rw same (d .entered);
+            words = rw (same, r .entered) (d .words);
             tables = r .kept .tables;
           };
           kept = r .kept;

@@ -9,7 +9,6 @@ ghost use Rattle.session.specs.Model.{Meaning, lineRefusal};
 ghost use Rattle.session.specs.Sound.{standingOf, Shaped};
 ghost use Rattle.session.specs.Causes.{Opens, enterCause};
 use crate::Session;
-use crate::entries;
 use sheet::refusal;
 use words::w32;
 
@@ -105,8 +104,7 @@ pub fn line_cause(session: Session, free: u32, k: u8, a: u8, b: u8, c: u8) -> u8
         return refusal::LINE_UNKNOWN;
     }
     if k == ENTER {
-        let cube = entries::entered(session);
-        return enter_cause(free, cube.mask, a, b);
+        return enter_cause(free, session.entered.mask, a, b);
     }
     if k == TAKE_BACK {
         return take_back_cause(session.len);

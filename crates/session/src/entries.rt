@@ -1,11 +1,11 @@
-// The entries of a session: put last, taken from the end, read, and all of them as a cube.
+// The entries of a session: put last, taken from the end, read. The cube of all of them goes with each, so that nothing ever walks them.
 ghost use mathlib.Core.Path.{_≡_};
 ghost use mathlib.Core.List.{[], _∷_, _++_};
-ghost use Prim.Native.Nat.{_+_, _-_, _<_, _≤_};
+ghost use Prim.Native.Nat.{_+_, _-_, _<_};
 ghost use lib.ListN.{take};
 ghost use Rattle.session.specs.Entries.{entryAt};
-ghost use Rattle.session.specs.Sound.{standingOf, Shaped, Empty};
-ghost use Rattle.session.specs.Step.{Moved, Words};
+ghost use Rattle.session.specs.Sound.{standingOf, Shaped, Fresh, Empty};
+ghost use Rattle.session.specs.Step.{Moved};
 use crate::Entry;
 use crate::Session;
 use cube::Cube;
@@ -21,6 +21,7 @@ pub fn empty() -> Session
     Session {
         entries: [none; 32],
         len: 0,
+        entered: Cube::UNFIXED,
         under: 0,
         over: 0,
     }
@@ -28,23 +29,28 @@ pub fn empty() -> Session
 
 // The entry put last. Here alone an entry comes to stand.
 pub fn append(session: Session, entry: Entry) -> Session
-    requires { ⌜ Shaped session × (session .len < 32) ⌝ }
+    requires { ⌜ Shaped session × (session .len < 32) × Fresh session (entry .variable) ⌝ }
     ensures { λ r. ⌜ Moved session r (standingOf session ++ (entry ∷ [])) ⌝ }
 {
     let mut longer = session;
     let n = session.len;
     longer.entries[n] = entry;
     longer.len = n + 1;
+    longer.entered = session.entered.fix(entry.variable, entry.value == 1);
     longer
 }
 
-// Only the first n entries stand.
-pub fn truncate(session: Session, n: usize) -> Session
-    requires { ⌜ Shaped session × (n ≤ session .len) ⌝ }
-    ensures { λ r. ⌜ Moved session r (take n (standingOf session)) ⌝ }
+// The latest entry struck.
+pub fn remove_last(session: Session) -> Session
+    requires { ⌜ Shaped session × (0 < session .len) ⌝ }
+    ensures { λ r. ⌜ Moved session r (take (session .len - 1) (standingOf session)) ⌝ }
 {
     let mut shorter = session;
+    let n = session.len - 1;
+    let entry = session.entries[n];
+    let freed = session.entered.free(entry.variable);
     shorter.len = n;
+    shorter.entered = freed;
     shorter
 }
 
@@ -54,20 +60,4 @@ pub fn entry_at(session: Session, place: usize) -> Entry
     ensures { λ r. ⌜ r ≡ entryAt (standingOf session) place ⌝ }
 {
     session.entries[place]
-}
-
-// The variables entered, fixed at their values.
-pub fn entered(session: Session) -> Cube
-    requires { ⌜ Shaped session ⌝ }
-    ensures { λ r. ⌜ Words (standingOf session) (r .mask) (r .values) ⌝ }
-{
-    let mut cube = Cube::UNFIXED;
-    let n = session.len;
-    let mut i: usize = 0;
-    while i < n {
-        let entry = session.entries[i];
-        cube = cube.fix(entry.variable, entry.value == 1);
-        i += 1;
-    }
-    cube
 }

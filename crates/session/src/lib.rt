@@ -4,16 +4,20 @@ pub mod entries;
 pub mod inplace;
 pub mod line;
 
+use cube::Cube;
+
 // A variable that is entered, and its value.
 pub struct Entry {
     pub variable: u8,
     pub value: u8,
 }
 
-// The first `len` entries stand, oldest first; the first `under` and `over` records of the two tables count.
+// The first `len` entries stand, oldest first, and `entered` fixes their variables at their values, so that no line walks them; the first `under` and
+// `over` records of the two tables count.
 pub struct Session {
     pub entries: [Entry; 32],
     pub len: usize,
+    pub entered: Cube,
     pub under: usize,
     pub over: usize,
 }

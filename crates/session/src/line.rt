@@ -4,7 +4,7 @@ ghost use Prim.Native.Nat.{_+_, _-_, _<_};
 ghost use lib.ListN.{length, take};
 ghost use Rattle.session.specs.Model.{reply, refused, counted, told, judged};
 ghost use Rattle.session.specs.Entries.{entryAt};
-ghost use Rattle.session.specs.Sound.{standingOf, Shaped, Sound};
+ghost use Rattle.session.specs.Sound.{standingOf, Shaped, Fresh, Sound};
 ghost use Rattle.session.specs.Step.{askOf, whyOf, PromisedFor, Tells, Replies, Recounted, Searches, Step};
 use crate::Answer;
 use crate::Entry;
@@ -22,12 +22,15 @@ fn refuse(session: Session, number: u8) -> Stepped
     requires { ⌜ Shaped session ⌝ }
     ensures { λ r. ⌜ Replies session (reply (refused number) (standingOf session)) (r .session) (r .answer .number) (r .answer .v) (r .answer .word) ⌝ }
 {
-    let answer = Answer {
+    let refusal = Answer {
         number,
         v: 0,
         word: 0,
     };
-    Stepped { session, answer }
+    Stepped {
+        session,
+        answer: refusal,
+    }
 }
 
 // An entry, as TAKE BACK and READ tell it.
@@ -42,7 +45,7 @@ fn tell_entry(entry: Entry) -> Answer
 }
 
 fn enter(session: Session, variable: u8, value: u8) -> Stepped
-    requires { ⌜ Shaped session × (session .len < 32) ⌝ }
+    requires { ⌜ Shaped session × (session .len < 32) × Fresh session variable ⌝ }
     ensures { λ r. ⌜ Replies session (reply (counted (length (standingOf session) + 1)) (standingOf session ++ (record { variable = variable; value = value } ∷ []))) (r .session) (r .answer .number) (r .answer .v) (r .answer .word) ⌝ }
 {
     let n = session.len + 1;
@@ -64,7 +67,7 @@ fn take_back(session: Session) -> Stepped
 {
     let last = session.len - 1;
     let answer = tell_entry(entries::entry_at(session, last));
-    let shorter = entries::truncate(session, last);
+    let shorter = entries::remove_last(session);
     Stepped {
         session: shorter,
         answer,
@@ -113,12 +116,11 @@ fn ask(session: Session, sheet: &[u8], free: u32, under: &mut [u32], over: &mut 
     ensures { λ r. ⌜ Searches (now (sheet .entry)) session (now (under .entry)) (now (over .entry)) (askOf (now (sheet .entry)) (standingOf session)) (r .session) (now (under .exit)) (now (over .exit)) (r .answer .number) (r .answer .v) (r .answer .word) ⌝ }
     ensures { λ r. ⌜ PromisedFor (now (sheet .entry)) (standingOf session) (now (under .exit)) (r .session .under) (now (over .exit)) (r .session .over) ⌝ }
 {
-    let cube = entries::entered(session);
     let found = solver::ask(
         sheet,
         free,
-        cube.mask,
-        cube.values,
+        session.entered.mask,
+        session.entered.values,
         under,
         session.under,
         over,
@@ -136,12 +138,11 @@ fn why(session: Session, sheet: &[u8], free: u32, under: &mut [u32], over: &mut 
     requires { ⌜ Sound (now sheet) free session (now under) (now over) ⌝ }
     ensures { λ r. ⌜ Searches (now (sheet .entry)) session (now (under .entry)) (now (over .entry)) (whyOf (now (sheet .entry)) (standingOf session)) (r .session) (now (under .exit)) (now (over .exit)) (r .answer .number) (r .answer .v) (r .answer .word) ⌝ }
 {
-    let cube = entries::entered(session);
     let found = solver::why(
         sheet,
         free,
-        cube.mask,
-        cube.values,
+        session.entered.mask,
+        session.entered.values,
         under,
         session.under,
         over,

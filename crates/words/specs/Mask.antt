@@ -301,6 +301,17 @@ unfolding put
 put-more w v true h = refl
 put-more w v false h = without-none w v h ∙ sym (or-zero-r w)
 
+-- and loses it again
+pub without-more : (w v : ℕ) (b : Bool) → bit w v ≡ false → without (bitOr w (cond b (2 ^ v) 0)) (2 ^ v) ≡ w
+without-more w v true h = ext (without (bitOr w (2 ^ v)) (2 ^ v)) w (λ k. simp (bit-without, bit-or, bit-pow) (go (bit w k) (eqb k v) (λ e. rw (eqb-true k v e) h)))
+  where
+    go : (p q : Bool) → (q ≡ true → p ≡ false) → ((p || q) && not q) ≡ p
+    go true true i = sym (i refl)
+    go true false i = refl
+    go false true i = refl
+    go false false i = refl
+without-more w v false h = ap (λ (x : ℕ). without x (2 ^ v)) (or-zero-r w) ∙ without-none w v h
+
 -- ---- `put` where v may lie past the last of n places: then nothing changes
 
 unfoldable pub placed : ℕ → ℕ → ℕ → Bool → ℕ

@@ -1,5 +1,6 @@
 -- `run::run_line` meets its contract.
 use borrow.Author.Needs.{needs}
+use native.Mathlib.Omega.{arith}
 use Rattle.run.proofs.run_line.Statement.{statement}
 use Rattle.run.proofs.run_line.Tie as tie
 
@@ -34,7 +35,7 @@ step-lent-requires : tie.Need-step-lent-requires
 step-lent-requires c κs = search needs
 
 write-requires : tie.Need-write-requires
-write-requires c κs = search needs
+write-requires c κs = omega (arith, c .before .before .before .before .before .before .before .before .before .before .before .before .before .before .before .before .before .before .pre .1 .1)
 
 same-length : tie.Need-same-length
 same-length c = search needs

@@ -12,16 +12,13 @@ unknown-requires c κs = search needs
 returns : tie.Need-returns
 returns c m o = sym (refusal-unknown m _ _ _ _ _ (sym (c .before .unknown .ensures) ∙ c .if1 .taken))
 
-entered-requires : tie.Need-entered-requires
-entered-requires c κs = search needs
-
 enter-cause-requires : tie.Need-enter-cause-requires
 enter-cause-requires c κs = search needs
 
 returns-2 : tie.Need-returns-2
 returns-2 c m o =
-    let known = sym (c .before .before .before .before .unknown .ensures) ∙ c .before .before .before .if1 .left in
-    rw (refusal-enter m _ _ _ _ _ known _ o (c .before .before .if2 .taken), ← c .before .entered .ensures .mask-is) (c .enter-cause .ensures)
+    let known = sym (c .before .before .before .unknown .ensures) ∙ c .before .before .if1 .left in
+    rw (refusal-enter m _ _ _ _ _ known _ o (c .before .if2 .taken), ← c .before .before .before .before .pre .words .mask-is) (c .enter-cause .ensures)
 
 take-back-cause-requires : tie.Need-take-back-cause-requires
 take-back-cause-requires c κs = search needs
@@ -52,7 +49,6 @@ line-cause-spec =
     (tie.spec
     unknown-requires
     returns
-    entered-requires
     enter-cause-requires
     returns-2
     take-back-cause-requires

@@ -15,7 +15,7 @@ returns c =
     let p = c .before .before .pre .0 in
     record {
       tells = rw (c .before .entry-at .ensures) at (c .tell-entry .ensures);
-      moved = record { cells = p .cells; within = p .within; stands = refl; under = refl; over = refl };
+      moved = record { cells = p .cells; within = p .within; stands = refl; words = p .words; under = refl; over = refl };
     }
 
 pub read-spec : {M : Type 1} → statement M

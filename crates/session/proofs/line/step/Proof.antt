@@ -1,7 +1,7 @@
 -- `session::line::step` meets its contract.
 use borrow.Author.Needs.{needs}
 use Rattle.session.specs.Sound.{sound-shaped, sound-opens}
-use Rattle.session.specs.StepLaws.{refused-step, enter-room, enter-step, take-back-some, take-back-step, read-there, read-step, ask-step, why-step}
+use Rattle.session.specs.StepLaws.{refused-step, enter-room, enter-fresh, enter-step, take-back-some, take-back-step, read-there, read-step, ask-step, why-step}
 use Rattle.session.proofs.line.step.Statement.{statement}
 use Rattle.session.proofs.line.step.Tie as tie
 
@@ -21,7 +21,7 @@ enter-requires c κs =
     let d = c .before .before .before .before .before .before .pre in
     let n = c .before .before .line-cause .ensures _ (sound-opens d) in
     let z = c .before .if1 .left in
-    (sound-shaped d, enter-room d _ _ _ _ n z (c .if2 .taken))
+    (sound-shaped d, enter-room d _ _ _ _ n z (c .if2 .taken), enter-fresh d _ _ _ _ n z (c .if2 .taken))
 
 returns-2 : tie.Need-returns-2
 returns-2 c =

@@ -1,15 +1,12 @@
 -- `session::line::why` meets its contract.
 use borrow.Author.Needs.{needs}
-use Rattle.session.specs.Sound.{sound-shaped}
-use Rattle.session.specs.StepLaws.{searched, words-ready}
+use Rattle.session.specs.Sound.{sound-ready}
+use Rattle.session.specs.StepLaws.{searched}
 use Rattle.session.proofs.line.why.Statement.{statement}
 use Rattle.session.proofs.line.why.Tie as tie
 
-entered-requires : tie.Need-entered-requires
-entered-requires c κs = sound-shaped (c .before .before .before .pre)
-
 why-requires : tie.Need-why-requires
-why-requires c κs = words-ready (c .before .before .before .before .before .before .pre) (c .before .before .entered .ensures)
+why-requires c κs = sound-ready (c .before .before .before .before .before .pre)
 
 recount-requires : tie.Need-recount-requires
 recount-requires c κs = search needs
@@ -25,7 +22,7 @@ same-length-2 c = search needs
 
 returns : tie.Need-returns
 returns c =
-    let w = c .before .before .before .before .before .before .before .before .before .entered .ensures in
+    let w = c .before .before .before .before .before .before .before .before .before .before .before .before .pre .words in
     let e = c .before .before .before .before .before .before .why .ensures in
     let n = c .before .recount .ensures in
     searched (rw (w .mask-is, w .values-are) at (e .0)) (e .1) n (c .tell-verdict .ensures)
@@ -34,7 +31,6 @@ pub why-spec : {M : Type 1} → statement M
 why-spec =
     tie.close
     (tie.spec
-    entered-requires
     why-requires
     recount-requires
     tell-verdict-requires
