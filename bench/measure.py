@@ -99,10 +99,11 @@ class Ended:
 
 
 class Answer:
-    """A verdict, or None if there was none within the limit, and its CPU seconds; no verdict counts as the limit."""
+    """A verdict, or None if there was none within the limit, and its CPU seconds; no verdict counts as the limit. Ours has a word beside it."""
 
-    def __init__(self, verdict, seconds, limit=LIMIT):
+    def __init__(self, verdict, seconds, limit=LIMIT, word=None):
         self.verdict = verdict
+        self.word = word
         self.seconds = seconds if verdict else limit
 
 
@@ -111,7 +112,7 @@ def ask_ours(program, sheet, question, limit=LIMIT):
     ended = Ended([program, sheet, question], limit)
     words = ended.printed.split()
     if ended.status == 0 and len(words) == 3:
-        return Answer(words[0], float(words[2]), limit) if float(words[2]) < limit else Answer(None, limit, limit)
+        return Answer(words[0], float(words[2]), limit, words[1]) if float(words[2]) < limit else Answer(None, limit, limit)
     if ended.stopped:
         return Answer(None, limit, limit)
     fail(f"{sheet}: our call ended with status {ended.status}: {ended.printed}")

@@ -1,5 +1,7 @@
-//! One question to the archive: `ours FILE ask|why` prints the verdict, the word and the CPU seconds of one call, which checks
-//! the sheet and answers the script's one line. A short call is repeated until it can be measured.
+//! One call of the archive: `ours FILE ask|why|asks|entries` prints the verdict, a word and the CPU seconds of the call, which
+//! checks the sheet and runs a script over it. A short call is repeated until it can be measured.
+//! - ask, why: a script of that one line; the word is the answer's.
+//! - asks, entries: a script of 1,000 lines; the verdict is the last ASK's (no where there is none), the word a sum of all answers.
 
 #[path = "../../include/hammerloom.rs"]
 mod hammerloom;
@@ -25,32 +27,72 @@ const LONG: f64 = 0.02;
 const MEASURED: f64 = 0.03;
 const BATCHES: u32 = 5;
 
+const LINES: usize = 1000;
+const VARIABLES: usize = 32;
+const ASK: u8 = 0x13;
+
 fn main() -> ExitCode {
     let arguments: Vec<String> = std::env::args().skip(1).collect();
-    let (file, line) = match &arguments[..] {
-        [file, question] if question == "ask" => (file, [0x13, 0, 0, 0]),
-        [file, question] if question == "why" => (file, [0x14, 0, 0, 0]),
-        _ => return fail("usage: ours FILE ask|why"),
+    let [file, question] = &arguments[..] else {
+        return fail("usage: ours FILE ask|why|asks|entries");
+    };
+    let Some(script) = script(question) else {
+        return fail("no such question");
     };
     let Ok(sheet) = std::fs::read(file) else {
         return fail("the sheet cannot be read");
     };
+    let mut answers = vec![0; script.len() / 4 * 6];
     let start = cpu_seconds();
-    let answer = call(&sheet, &line);
+    let accepted = call(&sheet, &script, &mut answers);
     let mut seconds = cpu_seconds() - start;
-    let Some([0, verdict, word @ ..]) = answer else {
+    let Some((verdict, word)) = told(&script, &answers).filter(|_| accepted) else {
         return fail("the question is refused");
     };
+    let mut again = vec![0; answers.len()];
     if seconds < LONG {
         let repeats = (MEASURED / f64::from(BATCHES) / seconds.max(1e-7)).ceil().min(20_000.0) as u32;
         for _ in 0..BATCHES {
             let start = cpu_seconds();
-            (0..repeats).for_each(|_| assert_eq!(call(&sheet, &line), answer, "another answer the next time"));
+            for _ in 0..repeats {
+                assert!(call(&sheet, &script, &mut again) && again == answers, "another answer the next time");
+            }
             seconds = seconds.min((cpu_seconds() - start) / f64::from(repeats));
         }
     }
-    println!("{} {:08X} {seconds:.9}", if verdict == 1 { "yes" } else { "no" }, u32::from_be_bytes(word));
+    println!("{} {word:08X} {seconds:.9}", if verdict { "yes" } else { "no" });
     ExitCode::SUCCESS
+}
+
+/// The script of a question.
+fn script(question: &str) -> Option<Vec<u8>> {
+    let enter = |v: usize| [0x10, (v % VARIABLES) as u8, 0, 0];
+    let read = |v: usize| [0x12, (v % VARIABLES) as u8, 0, 0];
+    let line = |i: usize| match question {
+        "ask" => [ASK, 0, 0, 0],
+        "why" => [0x14, 0, 0, 0],
+        // Every variable is entered first, so that the questions cost little beside their entries; an ENTER behind that is refused.
+        "asks" if i < VARIABLES => enter(i),
+        "asks" => [read(i), enter(i), [ASK, 0, 0, 0]][i % 3],
+        // Every variable is entered, read and taken back, over and over.
+        _ => [enter(i), read(i), [0x11, 0, 0, 0]][i / VARIABLES % 3],
+    };
+    let lines = match question {
+        "ask" | "why" => 1,
+        "asks" | "entries" => LINES,
+        _ => return None,
+    };
+    Some((0..lines).flat_map(line).collect())
+}
+
+/// The verdict and the word of the answers; none if the one line of a script is refused.
+fn told(script: &[u8], answers: &[u8]) -> Option<(bool, u32)> {
+    if let &[number, verdict, a, b, c, d] = answers {
+        return (number == 0).then_some((verdict == 1, u32::from_be_bytes([a, b, c, d])));
+    }
+    let last = script.chunks(4).zip(answers.chunks(6)).filter(|(line, _)| line[0] == ASK).last();
+    let sum = answers.iter().fold(0x811C_9DC5, |sum: u32, byte| (sum ^ u32::from(*byte)).wrapping_mul(0x0100_0193));
+    Some((last.is_some_and(|(_, answer)| answer[1] == 1), sum))
 }
 
 fn fail(why: &str) -> ExitCode {
@@ -58,14 +100,13 @@ fn fail(why: &str) -> ExitCode {
     ExitCode::from(2)
 }
 
-/// The answer to the line; none if the sheet is refused.
-fn call(sheet: &[u8], line: &[u8; 4]) -> Option<[u8; 6]> {
-    let mut answer = [0; 6];
+/// Runs the script over the sheet; whether the run is accepted.
+fn call(sheet: &[u8], script: &[u8], answers: &mut [u8]) -> bool {
     // SAFETY: each pointer has its buffer's length behind it, and the three are apart.
     let result = unsafe {
-        hammerloom_run(sheet.as_ptr(), sheet.len(), line.as_ptr(), line.len(), answer.as_mut_ptr(), answer.len())
+        hammerloom_run(sheet.as_ptr(), sheet.len(), script.as_ptr(), script.len(), answers.as_mut_ptr(), answers.len())
     };
-    (result == 0).then_some(answer)
+    result == 0
 }
 
 fn cpu_seconds() -> f64 {
