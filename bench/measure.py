@@ -118,6 +118,19 @@ def ask_ours(program, sheet, question, limit=LIMIT):
     fail(f"{sheet}: our call ended with status {ended.status}: {ended.printed}")
 
 
+def count_ours(program, sheet, question, limit=20 * LIMIT):
+    """One call of the archive under valgrind: its seconds are instructions. Programs run some fifty times slower there."""
+    count = ["valgrind", "--tool=callgrind", "--callgrind-out-file=/dev/null", "--toggle-collect=hammerloom_run", "--log-fd=1"]
+    ended = Ended([*count, program, sheet, question, "once"], limit)
+    told = re.search(r"^(yes|no) ([0-9A-F]{8}) ", ended.printed, re.MULTILINE)
+    counted = re.search(r"Collected : (\d+)", ended.printed)
+    if ended.status == 0 and told and counted:
+        return Answer(told[1], int(counted[1]), limit, told[2])
+    if ended.stopped:
+        return Answer(None, limit, limit)
+    fail(f"{sheet}: our call under valgrind ended with status {ended.status}: {ended.printed}")
+
+
 def peer_verdict(ended):
     if ended.stopped:
         return None

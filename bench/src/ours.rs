@@ -1,5 +1,5 @@
-//! One call of the archive: `ours FILE ask|why|asks|entries` prints the verdict, a word and the CPU seconds of the call, which
-//! checks the sheet and runs a script over it. A short call is repeated until it can be measured.
+//! One call of the archive: `ours FILE ask|why|asks|entries [once]` prints the verdict, a word and the CPU seconds of the call, which
+//! checks the sheet and runs a script over it. A short call is repeated until it can be measured, if not `once` is said.
 //! - ask, why: a script of that one line; the word is the answer's.
 //! - asks, entries: a script of 1,000 lines; the verdict is the last ASK's (no where there is none), the word a sum of all answers.
 
@@ -33,8 +33,10 @@ const ASK: u8 = 0x13;
 
 fn main() -> ExitCode {
     let arguments: Vec<String> = std::env::args().skip(1).collect();
-    let [file, question] = &arguments[..] else {
-        return fail("usage: ours FILE ask|why|asks|entries");
+    let (file, question, once) = match &arguments[..] {
+        [file, question] => (file, question, false),
+        [file, question, word] if word == "once" => (file, question, true),
+        _ => return fail("usage: ours FILE ask|why|asks|entries [once]"),
     };
     let Some(script) = script(question) else {
         return fail("no such question");
@@ -50,7 +52,7 @@ fn main() -> ExitCode {
         return fail("the question is refused");
     };
     let mut again = vec![0; answers.len()];
-    if seconds < LONG {
+    if seconds < LONG && !once {
         let repeats = (MEASURED / f64::from(BATCHES) / seconds.max(1e-7)).ceil().min(20_000.0) as u32;
         for _ in 0..BATCHES {
             let start = cpu_seconds();
