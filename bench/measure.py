@@ -118,7 +118,7 @@ def ask_ours(program, sheet, question, limit=LIMIT):
     fail(f"{sheet}: our call ended with status {ended.status}: {ended.printed}")
 
 
-def count_ours(program, sheet, question, limit=20 * LIMIT):
+def count_ours(program, sheet, question, limit=5 * LIMIT):
     """One call of the archive under valgrind: its seconds are instructions. Programs run some fifty times slower there."""
     count = ["valgrind", "--tool=callgrind", "--callgrind-out-file=/dev/null", "--toggle-collect=hammerloom_run", "--log-fd=1"]
     ended = Ended([*count, program, sheet, question, "once"], limit)
