@@ -15,16 +15,23 @@ use Rattle.run.specs.Accept.{Proper, number-proper, proper-accepted}
 use Rattle.text.specs.Hex.{hexLine}
 use Rattle.text.specs.Reading.{scriptFrames, reading}
 use Rattle.text.specs.ReadingLaws.{Framed, script-framed}
+use Rattle.text.specs.Grammar.{TextOf}
+use Rattle.text.specs.RoundTrip.{round-trip}
 use Rattle.text.specs.Prefix.{decisive, reading-prefix}
 use Rattle.text.specs.Answer.{answerSize, answerLineSize, answerLine}
 use Rattle.text.specs.AnswerLaws.{line-at, line-length}
 use Rattle.response.specs.Printed.{allLines, refusalOf, linesBy, printedRun, printedFor, printed, Prints, Starts}
 use Rattle.response.specs.PrintedLaws.{all-length, starts, lines-refused, lines-answered, printed-refused, printed-read, room-fits}
 
--- What stands behind the first 10,828 bytes of a text makes no difference.
+-- What stands behind the first 12,032 bytes of a text makes no difference.
 pub printed-prefix : (k : ℕ) (text : List ℕ) → decisive ≤ k → printed (take k text) ≡ printed text
 unfolding printed
 printed-prefix k text h = ap printedFor (reading-prefix k text h)
+
+-- A sheet and a script print the same in capitals or lower case, with lines ended 0A or 0D 0A.
+pub printed-alike : {sheet script a b : List ℕ} → TextOf sheet script a → TextOf sheet script b → printed a ≡ printed b
+unfolding printed
+printed-alike p q = ap printedFor (round-trip p ∙ sym (round-trip q))
 
 -- ---- how much is printed
 

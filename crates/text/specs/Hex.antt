@@ -5,9 +5,10 @@ use mathlib.Core.List.{List, [], _∷_, _++_}
 use lib.Dec.{leb, ltb}
 use lib.ListN.{take, drop}
 
--- the value of a digit 0-9 or A-F, and 16 for a byte that is no digit
+-- the value of a digit 0-9, A-F or a-f, and 16 for a byte that is no digit
 unfoldable pub digitValue : ℕ → ℕ
-digitValue b = cond (leb 48 b && leb b 57) (b - 48) (cond (leb 65 b && leb b 70) (b - 55) 16)
+digitValue b =
+    cond (leb 48 b && leb b 57) (b - 48) (cond (leb 65 b && leb b 70) (b - 55) (cond (leb 97 b && leb b 102) (b - 87) 16))
 
 -- the byte that a digit of this value is written as, in capitals
 unfoldable pub digitByte : ℕ → ℕ
@@ -16,6 +17,10 @@ digitByte d = cond (ltb d 10) (d + 48) (d + 55)
 -- byte 0A, which ends a line that is written
 abbrev pub lineFeed : ℕ
 lineFeed = 10
+
+-- byte 0D, which may stand before the 0A of a line that is read
+abbrev pub carriageReturn : ℕ
+carriageReturn = 13
 
 -- a line that is written: two digits for each byte, the high one first, and 0A
 unfoldable pub hexLine : List ℕ → List ℕ

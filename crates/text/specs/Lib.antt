@@ -1,4 +1,5 @@
 pub mod Hex
+pub mod HexLaws
 pub mod Line
 pub mod Stores
 pub mod LineLaws
@@ -6,5 +7,7 @@ pub mod Reading
 pub mod ReadingLaws
 pub mod Answer
 pub mod AnswerLaws
+pub mod Grammar
 pub mod RoundTrip
+pub mod Exactly
 pub mod Prefix

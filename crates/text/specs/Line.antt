@@ -5,16 +5,17 @@ use mathlib.Core.List.{List, [], _∷_, _++_}
 use lib.Dec.{eqb, ltb}
 use mathlib.Core.Path.{_≡_}
 use lib.ListN.{length, getD, drop}
-use Rattle.text.specs.Hex.{digitValue, lineFeed}
+use Rattle.text.specs.Hex.{digitValue, lineFeed, carriageReturn}
 use Rattle.text.specs.declared.line.Counted.{Counted}
 
 -- the first byte, and 0, which is neither a digit nor a line's end, where nothing is left
 abbrev pub head : List ℕ → ℕ
 head l = getD l 0 0
 
--- how many bytes here end a line: one, 0A; 0 where no line ends here
+-- how many bytes here end a line: one, 0A, or two, 0D 0A; 0 where no line ends here
 unfoldable pub ending : List ℕ → ℕ
-ending l = cond (eqb (head l) lineFeed) 1 0
+ending l =
+    cond (eqb (head l) lineFeed) 1 (cond (eqb (head l) carriageReturn && eqb (head (drop 1 l)) lineFeed) 2 0)
 
 -- the first n bytes are digits
 unfoldable pub digits : ℕ → List ℕ → Bool

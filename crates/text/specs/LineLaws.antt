@@ -7,16 +7,26 @@ use mathlib.Core.Bool.{true, false, _&&_}
 use mathlib.Core.List.{List, [], _∷_}
 use mathlib.Core.Path.{_≡_, refl, sym, ap, _∙_}
 use lib.Dec.{eqb, ltb}
-use lib.ListN.{length, getD, set, drop, length-append, length-drop}
+use lib.ListN.{length, getD, set, drop, length-append, length-drop, List·getD-eq-default}
 use lib.Seq.{sets, getD-drop, drop-drop}
-use borrow.Author.Tests.{ltb-true, ltb-false, lt-ltb, le-ltb}
+use borrow.Author.Tests.{ltb-true, ltb-false, lt-ltb, le-ltb, ne-eqb}
 use Rattle.words.specs.Logic.{by-bool, and-both}
 use Rattle.text.specs.Stores.{sets-append}
-use Rattle.text.specs.Hex.{digitValue, lineFeed}
+use Rattle.text.specs.Hex.{digitValue, lineFeed, carriageReturn}
 use Rattle.text.specs.Line.{head, ending, digits, lineDigits, frameBytes, lineSize, byteHere, bytes, TwoDigits, Lines, noLines, lineThen, lines}
 
 pub head-drop : (at : ℕ) (l : List ℕ) → head (drop at l) ≡ getD l at 0
 head-drop at l = getD-drop at l 0 0 ∙ ap (λ (k : ℕ). getD l k 0) (add-zero at)
+
+pub head-next : (at : ℕ) (l : List ℕ) → head (drop 1 (drop at l)) ≡ head (drop (at + 1) l)
+head-next at l = ap head (drop-drop 1 at l)
+
+-- a byte other than 0 stands within the text
+pub head-within : (at : ℕ) (l : List ℕ) → 0 < head (drop at l) → at < length l
+head-within at l h =
+    by-bool (ltb at (length l)) (ltb-true at (length l))
+    (λ f. let z : head (drop at l) ≡ 0 = head-drop at l ∙ List·getD-eq-default l 0 (ltb-false at (length l) f) in
+    absurd (omega arith))
 
 -- ---- digits
 
@@ -40,12 +50,42 @@ digits-two n l e =
     let b = and-both (ltb (digitValue (head (drop 1 l))) 16) (digits n (drop 1 (drop 1 l))) (a .1) in
     (record { high = ltb-true _ _ (a .0); low = ltb-true _ _ (b .0) }, rw (drop-drop 1 1 l) at (b .1))
 
--- ---- a line's size
+-- ---- a line's end
+
+-- by the first byte that stands here, and the second
+module _ (l : List ℕ) (first : ℕ) (e : first ≡ head l) where
+  pub ending-feed : first ≡ lineFeed → ending l ≡ 1
+  unfolding ending
+  ending-feed h = rw (← e, h)
+
+  pub ending-other : (first ≡ lineFeed → ⊥) → (first ≡ carriageReturn → ⊥) → ending l ≡ 0
+  unfolding ending
+  ending-other h k = rw (← e, ne-eqb first lineFeed h, ne-eqb first carriageReturn k)
+
+  module _ (h : first ≡ carriageReturn) (second : ℕ) (d : second ≡ head (drop 1 l)) where
+    pub ending-return : second ≡ lineFeed → ending l ≡ 2
+    unfolding ending
+    ending-return k = rw (← e, h, ← d, k)
+
+    pub ending-lone : (second ≡ lineFeed → ⊥) → ending l ≡ 0
+    unfolding ending
+    ending-lone k = rw (← e, h, ← d, ne-eqb second lineFeed k)
+
+pub ending-most : (l : List ℕ) → ending l ≤ 2
+unfolding ending
+ending-most l =
+    by-bool (eqb (head l) lineFeed) (λ t. rw t (omega arith))
+    (λ f. by-bool (eqb (head l) carriageReturn && eqb (head (drop 1 l)) lineFeed) (λ t. rw (f, t) (omega arith)) (λ g. rw (f, g) (omega arith)))
 
 pub ending-within : (l : List ℕ) → ending l ≤ length l
 unfolding ending
 ending-within [] = omega arith
-ending-within (b ∷ l) = by-bool (eqb b lineFeed) (λ e. rw e (omega arith)) (λ e. rw e (omega arith))
+ending-within (b ∷ []) =
+    by-bool (eqb b lineFeed) (λ e. rw e (omega arith))
+    (λ f. by-bool (eqb b carriageReturn) (λ e. rw (f, e) (omega arith)) (λ g. rw (f, g) (omega arith)))
+ending-within (b ∷ c ∷ l) = omega (arith, ending-most (b ∷ c ∷ l))
+
+-- ---- a line's size
 
 pub size-no-digits : (l : List ℕ) → digits lineDigits l ≡ false → lineSize l ≡ 0
 unfolding lineSize
@@ -60,11 +100,12 @@ module _ (l : List ℕ) (d : digits lineDigits l ≡ true) (n : ℕ) (e : n ≡ 
   unfolding lineSize
   size-line h = rw (d, ← e, lt-ltb 0 n h)
 
-pub size-shape : (l : List ℕ) → 0 < lineSize l → (digits lineDigits l ≡ true) × (lineSize l ≡ lineDigits + ending (drop lineDigits l))
+pub size-shape : (l : List ℕ) → 0 < lineSize l
+    → (digits lineDigits l ≡ true) × (lineSize l ≡ lineDigits + ending (drop lineDigits l)) × (0 < ending (drop lineDigits l))
 unfolding lineSize
 size-shape l h =
     by-bool (digits lineDigits l && ltb 0 (ending (drop lineDigits l)))
-    (λ t. (and-both (digits lineDigits l) (ltb 0 (ending (drop lineDigits l))) t .0, rw t))
+    (λ t. let k = and-both (digits lineDigits l) (ltb 0 (ending (drop lineDigits l))) t in (k .0, rw t, ltb-true _ _ (k .1)))
     (λ f. let z : 0 < 0 = rw f at h in absurd (omega arith))
 
 -- a line lies within the text

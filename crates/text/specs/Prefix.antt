@@ -6,13 +6,13 @@ use native.Mathlib.Nat.{zero-add, suc-add}
 use mathlib.Core.Bool.{true, false, _&&_}
 use mathlib.Core.List.{List, [], _∷_}
 use mathlib.Core.Path.{_≡_, refl, sym, ap, _∙_}
-use lib.Dec.{eqb, ltb}
+use lib.Dec.{ltb}
 use lib.ListN.{length, take, drop}
 use lib.Seq.{getD-take, take-nil}
 use borrow.Author.Tests.{lt-ltb}
 use Rattle.words.specs.Logic.{by-bool}
-use Rattle.text.specs.Hex.{lineFeed}
 use Rattle.text.specs.Line.{head, ending, digits, lineDigits, frameBytes, lineSize, bytes, lines}
+use Rattle.text.specs.LineLaws.{ending-most}
 use Rattle.text.specs.Reading.{sheetFrames, scriptFrames, readSheet, reading}
 
 -- ---- one line
@@ -30,13 +30,10 @@ drop-prefix j k l h =
     let e : k ≡ j + (k - j) = omega arith in
     ap (λ (n : ℕ). drop j (take n l)) e ∙ drop-front j (k - j) l
 
-ending-prefix : (k : ℕ) (l : List ℕ) → 0 < k → ending (take k l) ≡ ending l
+ending-prefix : (k : ℕ) (l : List ℕ) → 2 ≤ k → ending (take k l) ≡ ending l
 unfolding ending
-ending-prefix k l h = rw (head-prefix k l h)
-
-ending-most : (l : List ℕ) → ending l ≤ 1
-unfolding ending
-ending-most l = by-bool (eqb (head l) lineFeed) (λ t. rw t (omega arith)) (λ f. rw f (omega arith))
+ending-prefix k l h =
+    rw (head-prefix k l (omega arith), drop-prefix 1 k l (omega arith), head-prefix (k - 1) (drop 1 l) (omega arith))
 
 digits-prefix : (n k : ℕ) (l : List ℕ) → n ≤ k → digits n (take k l) ≡ digits n l
 unfolding digits
@@ -56,14 +53,17 @@ bytes-prefix (suc n) k l h =
       bytes-prefix n (k - 2) (drop 2 l) (omega arith),
     )
 
--- a line takes nine bytes at most
-size-most : (l : List ℕ) → lineSize l ≤ 9
+-- a line takes ten bytes at most
+abbrev lineMost : ℕ
+lineMost = lineDigits + 2
+
+size-most : (l : List ℕ) → lineSize l ≤ lineMost
 unfolding lineSize
 size-most l =
     by-bool (digits lineDigits l && ltb 0 (ending (drop lineDigits l)))
     (λ t. rw t (omega (arith, ending-most (drop lineDigits l)))) (λ f. rw f (omega arith))
 
-size-prefix : (k : ℕ) (l : List ℕ) → 9 ≤ k → lineSize (take k l) ≡ lineSize l
+size-prefix : (k : ℕ) (l : List ℕ) → lineMost ≤ k → lineSize (take k l) ≡ lineSize l
 unfolding lineSize
 size-prefix k l h =
     rw (
@@ -77,10 +77,10 @@ size-prefix k l h =
 -- the lines of the first k bytes are those of l, with `left` bytes left of what stands behind them
 record Prefix (n k : ℕ) (l : List ℕ) : Type 0 where
   left : ℕ
-  enough : k ≤ left + 9 * n
+  enough : k ≤ left + lineMost * n
   same : lines n (take k l) ≡ record { count = lines n l .count; frames = lines n l .frames; rest = take left (lines n l .rest) }
 
-turn-prefix : (n k : ℕ) (l : List ℕ) → 9 ≤ k → ltb 0 (lineSize l) ≡ true → Prefix n (k - lineSize l) (drop (lineSize l) l) → Prefix (suc n) k l
+turn-prefix : (n k : ℕ) (l : List ℕ) → lineMost ≤ k → ltb 0 (lineSize l) ≡ true → Prefix n (k - lineSize l) (drop (lineSize l) l) → Prefix (suc n) k l
 unfolding lines
 turn-prefix n k l h t r = record {
   left = r .left;
@@ -88,11 +88,11 @@ turn-prefix n k l h t r = record {
   same = rw (size-prefix k l h, t, drop-prefix (lineSize l) k l (omega (arith, size-most l)), r .same, bytes-prefix frameBytes k l (omega arith));
 }
 
-stop-prefix : (n k : ℕ) (l : List ℕ) → 9 ≤ k → ltb 0 (lineSize l) ≡ false → Prefix (suc n) k l
+stop-prefix : (n k : ℕ) (l : List ℕ) → lineMost ≤ k → ltb 0 (lineSize l) ≡ false → Prefix (suc n) k l
 unfolding lines
 stop-prefix n k l h f = record { left = k; enough = omega arith; same = rw (size-prefix k l h, f) }
 
-lines-prefix : (n k : ℕ) (l : List ℕ) → 9 * n + 9 ≤ k → Prefix n k l
+lines-prefix : (n k : ℕ) (l : List ℕ) → lineMost * n + lineMost ≤ k → Prefix n k l
 unfolding lines
 lines-prefix zero k l h = record { left = k; enough = omega arith; same = refl }
 lines-prefix (suc n) k l h =
@@ -109,7 +109,7 @@ some-left (suc k) (a ∷ l) h = lt-ltb 0 (length (take (suc k) (a ∷ l))) (omeg
 
 -- so many bytes decide: 201 sheet lines, the empty line, 1,001 script lines, and what shows that another line or the end follows
 abbrev pub decisive : ℕ
-decisive = 10828
+decisive = 12032
 
 pub reading-prefix : (k : ℕ) (text : List ℕ) → decisive ≤ k → reading (take k text) ≡ reading text
 unfolding reading

@@ -19,6 +19,12 @@ pub fn digit_value(b: u8) -> u8
     if b <= b'F' {
         return b - 55;
     }
+    if b < b'a' {
+        return 16;
+    }
+    if b <= b'f' {
+        return b - 87;
+    }
     16
 }
 

@@ -25,12 +25,19 @@ pub fn byte_at(text: &[u8], at: usize) -> u8
     0
 }
 
-// How many bytes at a place end a line, 0 where no line ends there.
+// How many bytes at a place end a line, 0A or 0D 0A; 0 where no line ends there.
 pub fn ending(text: &[u8], at: usize) -> usize
     ensures { λ r. ⌜ r ≡ ending (drop at (now (text .entry))) ⌝ }
 {
-    if byte_at(text, at) == b'\n' {
+    let first = byte_at(text, at);
+    if first == b'\n' {
         return 1;
+    }
+    if first != b'\r' {
+        return 0;
+    }
+    if byte_at(text, at + 1) == b'\n' {
+        return 2;
     }
     0
 }

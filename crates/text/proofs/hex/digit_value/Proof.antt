@@ -1,43 +1,37 @@
 -- `text::hex::digit_value` meets its contract: the tests that led to each return say in which range the byte lies. Assumes nothing.
 use borrow.Author.Needs.{needs}
-use borrow.Author.Tests.{le-leb, lt-leb}
 use native.Mathlib.Omega.{arith}
-use Rattle.text.specs.Hex.{digitValue}
+use mathlib.Core.Path.{sym}
+use Rattle.text.specs.HexLaws.{value-decimal, value-capital, value-lower, value-below, value-before-capitals, value-before-lower, value-above}
 use Rattle.text.proofs.hex.digit_value.Statement.{statement}
 use Rattle.text.proofs.hex.digit_value.Tie as tie
 
 returns : tie.Need-returns
-unfolding digitValue
-returns c =
-    let b = c .before .args .b in
-    rw (lt-leb 48 b (omega arith), lt-leb 65 b (omega arith))
+returns c = sym (value-below _ (omega arith))
 
 returns-2 : tie.Need-returns-2
-unfolding digitValue
-returns-2 c =
-    let b = c .before .before .args .b in
-    rw (le-leb 48 b (omega arith), le-leb b 57 (omega arith))
+returns-2 c = sym (value-decimal _ (omega arith) (omega arith))
 
 returns-3 : tie.Need-returns-3
-unfolding digitValue
-returns-3 c =
-    let b = c .before .before .before .args .b in
-    rw (le-leb 48 b (omega arith), lt-leb b 57 (omega arith), lt-leb 65 b (omega arith))
+returns-3 c = sym (value-before-capitals _ (omega arith) (omega arith))
 
 sub-result : tie.Need-sub-result
 sub-result c = search needs
 
 returns-4 : tie.Need-returns-4
-unfolding digitValue
-returns-4 c =
-    let b = c .before .before .before .before .args .b in
-    rw (le-leb 48 b (omega arith), lt-leb b 57 (omega arith), le-leb 65 b (omega arith), le-leb b 70 (omega arith))
+returns-4 c = sym (value-capital _ (omega arith) (omega arith))
 
 returns-5 : tie.Need-returns-5
-unfolding digitValue
-returns-5 c =
-    let b = c .before .before .before .before .args .b in
-    rw (le-leb 48 b (omega arith), lt-leb b 57 (omega arith), le-leb 65 b (omega arith), lt-leb b 70 (omega arith))
+returns-5 c = sym (value-before-lower _ (omega arith) (omega arith))
+
+sub-result-2 : tie.Need-sub-result-2
+sub-result-2 c = search needs
+
+returns-6 : tie.Need-returns-6
+returns-6 c = sym (value-lower _ (omega arith) (omega arith))
+
+returns-7 : tie.Need-returns-7
+returns-7 c = sym (value-above _ (omega arith))
 
 pub digit-value-spec : {M : Type 1} → statement M
 digit-value-spec =
@@ -48,4 +42,7 @@ digit-value-spec =
     returns-3
     sub-result
     returns-4
-    returns-5)
+    returns-5
+    sub-result-2
+    returns-6
+    returns-7)
