@@ -52,12 +52,18 @@ pub fn text(tally: &mut Tally, run: u64, path: &str, text: &[u8], pieces: usize)
             Ok(bytes) => format!("printed {:?}", String::from_utf8_lossy(bytes)),
             Err(error) => error.clone(),
         };
-        let start = &text[..text.len().min(2000)];
-        format!(
-            "{got}\n  expected {:?}\n  for a text of {} bytes: {:?}",
-            String::from_utf8_lossy(&expected),
-            text.len(),
-            String::from_utf8_lossy(start),
-        )
+        format!("{got}\n  expected {:?}\n  for {}", String::from_utf8_lossy(&expected), shown(text))
     });
+}
+
+/// The evaluator's own check: it reads the same from a text in every style. Else it and the program could err alike.
+pub fn reading(tally: &mut Tally, run: u64, text: &[u8], written: &Result<(Vec<u8>, Vec<u8>), Refusal>) {
+    let holds = evaluator::text::read(text) == *written;
+    tally.check(run, holds, || format!("the evaluator reads something else than was written\n  from {}", shown(text)));
+}
+
+/// A text's length and start.
+fn shown(text: &[u8]) -> String {
+    let start = &text[..text.len().min(2000)];
+    format!("a text of {} bytes: {:?}", text.len(), String::from_utf8_lossy(start))
 }

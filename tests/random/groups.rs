@@ -1,7 +1,7 @@
 //! The groups of runs. Each takes its random numbers from the seed, its own number and the run's number.
 
 use crate::evaluator::sheet::{self, Sheet};
-use crate::evaluator::{literal, truth::Truth, ANSWER};
+use crate::evaluator::{literal, text, truth::Truth, ANSWER};
 use crate::generate::damage::{damaged, faulty, misruled};
 use crate::generate::sheets::{self, Size, LARGE, MIDDLE, SMALL};
 use crate::generate::{scripts, texts};
@@ -34,7 +34,7 @@ pub const GROUPS: &[Group] = &[
     Group { name: "cut sheets and scripts", runs: |options| options.count / 400, run: cut },
     Group { name: "answer buffers of every length", runs: |options| options.count / 400, run: answer_buffers },
     Group { name: "truth tables against the rules read literally", runs: |options| options.count / 10, run: literally },
-    Group { name: "texts through the program", runs: |options| options.count / 50, run: program_texts },
+    Group { name: "texts through the program", runs: |options| options.count / 10, run: program_texts },
     Group { name: "limits through the program", runs: |_| LIMITS.len() as u64, run: program_limits },
 ];
 
@@ -209,15 +209,20 @@ fn literally(_: &Options, rng: &mut Rng, run: u64, tally: &mut Tally) {
     tally.check(run, tables == words, || format!("tables {tables:?}, rules {words:?}: {:?}", sheet.frames));
 }
 
+/// Texts in every style: one in ten of a faulty sheet, half of them damaged.
 fn program_texts(options: &Options, rng: &mut Rng, run: u64, tally: &mut Tally) {
     let size = if run.is_multiple_of(10) { MIDDLE } else { SMALL };
-    let (sheet, script) = sheet_and_script(rng, size, 20, 40);
-    let mut text = texts::text(&sheet, &script);
-    match rng.below(10) {
-        0..=4 => text = texts::damaged(rng, &text),
-        5 => text = texts::text(&damaged_frames(rng, &sheet), &script),
-        _ => {}
+    let (mut sheet, script) = sheet_and_script(rng, size, 20, 40);
+    let fault = rng.below(10);
+    if fault == 0 {
+        sheet = damaged_frames(rng, &sheet);
     }
+    let mut text = texts::in_some_style(rng, &texts::text(&sheet, &script));
+    compare::reading(tally, run, &text, &Ok((sheet, script)));
+    if fault >= 5 {
+        text = texts::damaged(rng, &text);
+    }
+    tally.met.note_text(&text);
     let pieces = if run.is_multiple_of(20) { 3 } else { 1 };
     compare::text(tally, run, &options.program, &text, pieces);
 }
@@ -251,25 +256,52 @@ const LIMITS: &[fn() -> Vec<u8>] = &[
     || texts::counted(1, 20_000),
     || texts::counted(5000, 5000),
     || joined(texts::counted(200, 0), b"\n"),
+    || joined(texts::counted(200, 0), b"\r"),
+    || joined(texts::counted(200, 0), b"\r\n"),
+    || joined(texts::counted(200, 999), b"13000000\r"),
+    || joined(texts::counted(200, 999), b"13000000\r\n"),
+    || joined(texts::counted(200, 999), b"13000000\r\r\n"),
     || joined(texts::counted(200, 1000), b"\n"),
+    || joined(texts::counted(200, 1000), b"\r"),
+    || joined(texts::counted(200, 1000), b"\r\n"),
     || joined(texts::counted(200, 1000), b"0"),
+    || joined(texts::counted(200, 1000), b"1300000f\n"),
     || joined(texts::counted(200, 1000), b"1300000g\n"),
     || joined(texts::counted(200, 1000), b"13000000"),
+    || joined(texts::counted(200, 1000), b"13000000\r"),
+    || joined(texts::counted(200, 1000), b"13000000\r\n"),
+    || joined(texts::counted(200, 1000), b"13000000\r\r\n"),
+    || joined(texts::counted(200, 1000), b"13000000\r13000000\n"),
     || joined(texts::counted(200, 1000), b"13000000\n\n"),
+    || joined(sheet_lines(200), b"\r"),
+    || joined(sheet_lines(200), b"\r\r\n"),
     || joined(sheet_lines(200), b"01000000"),
+    || joined(sheet_lines(200), b"01000000\r"),
     || joined(sheet_lines(200), b"0100000\n"),
+    || joined(sheet_lines(200), b"0100000\r\n"),
     || joined(sheet_lines(200), b"0100000a\n\n"),
+    || joined(sheet_lines(200), b"0100000g\n\n"),
     || joined(sheet_lines(200), b"01000000\n"),
+    || joined(sheet_lines(200), b"01000000\r\r\n"),
+    || joined(sheet_lines(200), b"01000000\r01000000\n\n"),
     || joined(sheet_lines(200), b"01000000\nzz"),
     || sheet_lines(200),
     || sheet_lines(1),
     || vec![b'0'; 16_383],
     || vec![b'0'; 16_384],
     || vec![b'0'; 16_385],
+    || joined(vec![b'0'; 16_382], b"\r\n"),
+    || joined(vec![b'0'; 16_383], b"\r\n"),
+    || joined(vec![b'0'; 16_384], b"\r\n"),
+    || vec![b'\r'; 16_384],
     || vec![b'\n'; 70_000],
     || vec![0; 300_000],
     || joined(texts::counted(3, 3), &[b'\n'; 20_000]),
+    || joined(texts::counted(3, 3), &[b'\r'; 20_000]),
     || joined(texts::counted(3, 3), &[b'F'; 20_000]),
+    // The 0D of a script line is the last byte of 16 KiB, then the last but one.
+    || joined(texts::counted(6, 0), &b"13000000\r\n".repeat(2000)),
+    || joined(texts::counted(7, 0), &b"13000000\r\n".repeat(2000)),
 ];
 
 /// Sheet lines without the empty line.
@@ -284,7 +316,12 @@ fn joined(mut text: Vec<u8>, more: &[u8]) -> Vec<u8> {
     text
 }
 
-fn program_limits(options: &Options, _: &mut Rng, run: u64, tally: &mut Tally) {
-    let text = LIMITS[run as usize]();
-    compare::text(tally, run, &options.program, &text, 1);
+/// Each as it stands, then all in lower case and 0D 0A, then mixed.
+fn program_limits(options: &Options, rng: &mut Rng, run: u64, tally: &mut Tally) {
+    let limit = LIMITS[run as usize]();
+    for percent in [0, 100, 50] {
+        let text = texts::styled(rng, &limit, percent, percent);
+        compare::reading(tally, run, &text, &text::read(&limit));
+        compare::text(tally, run, &options.program, &text, 1);
+    }
 }

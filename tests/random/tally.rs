@@ -1,6 +1,6 @@
 //! The count of checks, the first failures in words, and what the runs met.
 
-use crate::evaluator::sheet::Refusal;
+use crate::evaluator::{sheet::Refusal, text};
 
 /// Reports beyond these are counted only.
 const MOST_REPORTS: usize = 5;
@@ -42,12 +42,15 @@ impl Tally {
     }
 }
 
-/// How often each refusal, and each kind of question with each verdict, came up in the expected answers.
+/// How often each refusal, and each kind of question with each verdict, came up in the expected answers, and random texts
+/// of each case and ending.
 #[derive(Default)]
 pub struct Met {
     refusals: [u64; 18],
     /// ASK no and yes, WHY no and yes, each with word 0 and with another.
     questions: [u64; 8],
+    /// Texts with no letter, capitals, lower case, both; with no ending, 0A, 0D 0A, both. Each refused and accepted.
+    texts: [[u64; 2]; 8],
 }
 
 impl Met {
@@ -70,6 +73,18 @@ impl Met {
         }
     }
 
+    /// Notes a text by its letters, and by its endings.
+    pub fn note_text(&mut self, text: &[u8]) {
+        let accepted = usize::from(text::read(text).is_ok());
+        let letters = [text.iter().any(u8::is_ascii_uppercase), text.iter().any(u8::is_ascii_lowercase)];
+        let lines = text.iter().filter(|&&byte| byte == b'\n').count();
+        let carriage_returns = text.windows(2).filter(|pair| pair == b"\r\n").count();
+        let endings = [carriage_returns < lines, carriage_returns > 0];
+        for (start, [one, other]) in [(0, letters), (4, endings)] {
+            self.texts[start + usize::from(one) + 2 * usize::from(other)][accepted] += 1;
+        }
+    }
+
     fn add(&mut self, other: &Met) {
         for (count, more) in self.refusals.iter_mut().zip(other.refusals) {
             *count += more;
@@ -77,9 +92,13 @@ impl Met {
         for (count, more) in self.questions.iter_mut().zip(other.questions) {
             *count += more;
         }
+        for (count, more) in self.texts.iter_mut().flatten().zip(other.texts.iter().flatten()) {
+            *count += more;
+        }
     }
 
-    /// What came up fewer than so many times, of all that can: no call is refused by 0 or 1, and a no has no word.
+    /// What came up fewer than so many times, of all that can: no call is refused by 0 or 1, and a no has no word. Texts
+    /// without a letter or an ending are not asked for.
     pub fn lacks(&self, least: u64) -> Vec<String> {
         let mut lacks = Vec::new();
         for (number, &count) in self.refusals.iter().enumerate().skip(2) {
@@ -92,6 +111,14 @@ impl Met {
         for (name, &count) in names.iter().zip(&self.questions) {
             if count < least && !name.is_empty() {
                 lacks.push(format!("{name} {count} times"));
+            }
+        }
+        let names = ["", "capitals", "lower case", "both cases", "", "0A", "0D 0A", "both endings"];
+        for (name, counts) in names.iter().zip(&self.texts) {
+            for (outcome, &count) in ["refused", "accepted"].iter().zip(counts) {
+                if count < least && !name.is_empty() {
+                    lacks.push(format!("a text of {name} {outcome} {count} times"));
+                }
             }
         }
         lacks

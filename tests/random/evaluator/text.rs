@@ -1,4 +1,5 @@
-//! The text: lines of eight digits, and what the program prints.
+//! The text: lines of eight digits of either case, ended by 0A or by 0D 0A (documents/02-change-requests.md), and what
+//! the program prints.
 
 use super::sheet::{Refusal, MOST_SCRIPT_FRAMES, MOST_SHEET_FRAMES};
 use super::ANSWER;
@@ -12,7 +13,7 @@ pub fn printed(text: &[u8]) -> Vec<u8> {
     }
 }
 
-/// Twelve digits and 0A.
+/// Twelve digits, in capitals, and 0A alone.
 fn answer_line(answer: &[u8]) -> Vec<u8> {
     let digits: String = answer.iter().map(|byte| format!("{byte:02X}")).collect();
     format!("{digits}\n").into_bytes()
@@ -28,7 +29,7 @@ pub fn read(text: &[u8]) -> Result<(Vec<u8>, Vec<u8>), Refusal> {
         let Some(end) = rest.iter().position(|&byte| byte == 0x0A) else {
             return refused(1);
         };
-        let line = &rest[..end];
+        let line = content(&rest[..end]);
         rest = &rest[end + 1..];
         if line.is_empty() && !in_script {
             in_script = true;
@@ -51,7 +52,12 @@ pub fn read(text: &[u8]) -> Result<(Vec<u8>, Vec<u8>), Refusal> {
     }
 }
 
-/// Eight digits 0-9 A-F, two to a byte.
+/// A line without its ending, from what stands before its 0A: a 0D just there belongs to the ending, any other does not.
+fn content(line: &[u8]) -> &[u8] {
+    line.strip_suffix(b"\r").unwrap_or(line)
+}
+
+/// Eight digits, two to a byte.
 fn frame(line: &[u8]) -> Option<[u8; 4]> {
     let digits: Option<Vec<u8>> = line.iter().map(|&byte| digit(byte)).collect();
     match digits?[..] {
@@ -60,10 +66,12 @@ fn frame(line: &[u8]) -> Option<[u8; 4]> {
     }
 }
 
+/// The value of a digit 0-9 A-F a-f.
 fn digit(byte: u8) -> Option<u8> {
     match byte {
         b'0'..=b'9' => Some(byte - b'0'),
         b'A'..=b'F' => Some(byte - b'A' + 10),
+        b'a'..=b'f' => Some(byte - b'a' + 10),
         _ => None,
     }
 }

@@ -3,7 +3,7 @@
 use super::damage::faulty;
 use crate::rng::Rng;
 
-/// Sheet lines, the empty line, script lines.
+/// Sheet lines, the empty line, script lines; in capitals, each line ended by 0A.
 pub fn text(sheet: &[u8], script: &[u8]) -> Vec<u8> {
     let mut text = lines(sheet);
     text.push(b'\n');
@@ -16,51 +16,73 @@ fn lines(bytes: &[u8]) -> Vec<u8> {
     bytes.chunks(4).flat_map(|frame| line(frame).into_bytes()).collect()
 }
 
+/// The text with none, some or all letters in lower case, and none, some or all lines ended by 0D 0A.
+pub fn in_some_style(rng: &mut Rng, text: &[u8]) -> Vec<u8> {
+    let [lower_case, carriage_returns] = [(); 2].map(|()| rng.pick(&[0, 50, 100]));
+    styled(rng, text, lower_case, carriage_returns)
+}
+
+/// The text with so many percent of the letters in lower case, and so many percent of the lines ended by 0D 0A. A 0A
+/// with a 0D before it is left as it is.
+pub fn styled(rng: &mut Rng, text: &[u8], lower_case: usize, carriage_returns: usize) -> Vec<u8> {
+    let mut styled = Vec::new();
+    for &byte in text {
+        if byte == b'\n' && styled.last() != Some(&b'\r') && rng.percent(carriage_returns) {
+            styled.push(b'\r');
+        }
+        styled.push(if rng.percent(lower_case) { byte.to_ascii_lowercase() } else { byte });
+    }
+    styled
+}
+
+/// The bytes just before and behind the digits.
+const NEIGHBOURS: &[u8] = b"/:@G`g";
+const BLANKS: &[u8] = b" \t\x0B\x0C\0\x85\xA0";
+const EMPTY_LINES: &[&[u8]] = &[b"\n", b"\r\n"];
+/// What no line ends with.
+const NO_ENDINGS: &[&[u8]] = &[b"", b"\r", b"\r\r\n", b"\n\r", b" ", b" \n", b"\r \n", b"\t\r\n"];
+const PIECES: &[&[u8]] = &[b"01000000", b"13000000", b"\n", b"\r\n", b"\r"];
+
 /// A text with a fault, or one that looks like it: most, but not all, are refused.
 pub fn damaged(rng: &mut Rng, text: &[u8]) -> Vec<u8> {
     let mut text = text.to_vec();
-    match rng.below(16) {
-        0 => text.make_ascii_lowercase(),
-        1 => replace_one(rng, &mut text, |byte| byte.is_ascii_uppercase(), |byte| byte.to_ascii_lowercase()),
-        2 => text = text.iter().flat_map(|&byte| if byte == b'\n' { vec![b'\r', b'\n'] } else { vec![byte] }).collect(),
-        3 => insert_at_line_end(rng, &mut text, b'\r'),
-        4 => insert_at_line_end(rng, &mut text, b'\n'),
-        5 => text.push(b'\n'),
-        6 => drop(text.pop()),
-        7 => text.truncate(rng.below(text.len() + 1)),
-        8 => text.insert(0, b'\n'),
-        9 => text.retain(|&byte| byte != b'\n'),
-        10 => replace_one(rng, &mut text, |byte| byte == b'\n', |_| b' '),
-        11 => text.insert(rng.below(text.len() + 1), rng.pick(b"0F\n\r gG/:@'`\0\xff")),
-        12 if !text.is_empty() => drop(text.remove(rng.below(text.len()))),
-        13 => {
-            text = {
-                let count = rng.below(300);
-                rng.bytes(count)
-            }
+    let (place, gap) = (rng.below(text.len()), rng.below(text.len() + 1));
+    match rng.below(20) {
+        0..=3 => {
+            let ending = rng.pick(NO_ENDINGS);
+            replace_ending(rng, &mut text, ending);
         }
-        14 => text.clear(),
+        4 => {
+            let ending = [rng.pick(EMPTY_LINES), rng.pick(EMPTY_LINES)].concat();
+            replace_ending(rng, &mut text, &ending);
+        }
+        5 => text.insert(gap, b'\r'),
+        6 => text.insert(gap, rng.pick(b"0Ff\n")),
+        7 => text.insert(gap, rng.pick(BLANKS)),
+        8 => text[place] = rng.pick(BLANKS),
+        9..=11 => text[place] = rng.pick(NEIGHBOURS),
+        12 => text[place] = faulty(rng, text[place]),
+        13 => drop(text.remove(place)),
+        14 => text.truncate(gap),
+        15 => drop(text.pop()),
+        16 => text.extend(rng.pick(EMPTY_LINES)),
+        17 => text = [rng.pick(EMPTY_LINES), &text].concat(),
+        18 => text.retain(|&byte| byte != b'\n'),
+        19 if rng.percent(50) => text = (0..rng.below(8)).flat_map(|_| rng.pick(PIECES).to_vec()).collect(),
         _ => {
-            let place = rng.below(text.len());
-            text[place] = faulty(rng, text[place]);
+            let count = rng.below(300);
+            text = rng.bytes(count);
         }
     }
     text
 }
 
-fn replace_one(rng: &mut Rng, text: &mut [u8], from: fn(u8) -> bool, to: fn(u8) -> u8) {
-    let places: Vec<usize> = (0..text.len()).filter(|&place| from(text[place])).collect();
-    if !places.is_empty() {
-        let place = rng.pick(&places);
-        text[place] = to(text[place]);
-    }
-}
-
-fn insert_at_line_end(rng: &mut Rng, text: &mut Vec<u8>, byte: u8) {
+/// Puts other bytes in the place of one line's ending.
+fn replace_ending(rng: &mut Rng, text: &mut Vec<u8>, by: &[u8]) {
     let ends: Vec<usize> = (0..text.len()).filter(|&place| text[place] == b'\n').collect();
-    if !ends.is_empty() {
-        text.insert(rng.pick(&ends), byte);
-    }
+    let end = rng.pick(&ends);
+    let start = if text[..end].ends_with(b"\r") { end - 1 } else { end };
+    text.splice(start..=end, by.iter().copied());
 }
 
 /// A text around the limits: so many sheet and script lines, all well shaped.
