@@ -1,4 +1,4 @@
--- What a text reads to is exactly what the grammar says of it; and of its returns. Assumes nothing.
+-- What a text reads to is exactly what the grammar says that it gives; and where an accepted text has a 0D. Assumes nothing.
 use Prim.Native.Nat.{ℕ, zero, suc, _+_, _-_, _*_, _/_, _%_, _≤_, _<_}
 use native.Mathlib.Omega.{arith}
 use mathlib.Core.Bool.{true, _&&_}
@@ -192,7 +192,7 @@ module _ (text : List ℕ) where
   pub told-exactly : (r : Reading) → (reading text ≡ r) ↔ Gives text r
   told-exactly r = (λ e. subst (Gives text) e given, given-only)
 
--- ---- returns
+-- ---- where a 0D stands
 
 no-byte : Paired []
 no-byte = record { feed-behind = λ i e. absurd (omega arith) }

@@ -19,23 +19,17 @@ use Rattle.text.specs.Grammar.{lowerByte, DigitOf, capital, lower, Digit
 
 -- ---- a digit, a byte
 
-capital-value : (d : ℕ) → d < 16 → digitValue (digitByte d) ≡ d
-unfolding digitByte
-capital-value d h =
+-- by where the letters stand
+value-back : (letters d : ℕ) → (10 ≤ d → digitValue (d + letters) ≡ d) → digitValue (cond (ltb d 10) (d + 48) (d + letters)) ≡ d
+value-back letters d h =
     by-bool (ltb d 10)
     (λ t. let l : d < 10 = ltb-true d 10 t in rw t (value-decimal (d + 48) (omega arith) (omega arith) ∙ omega arith))
-    (λ f. let l : 10 ≤ d = ltb-false d 10 f in rw f (value-capital (d + 55) (omega arith) (omega arith) ∙ omega arith))
-
-lower-value : (d : ℕ) → d < 16 → digitValue (lowerByte d) ≡ d
-unfolding lowerByte
-lower-value d h =
-    by-bool (ltb d 10)
-    (λ t. let l : d < 10 = ltb-true d 10 t in rw t (value-decimal (d + 48) (omega arith) (omega arith) ∙ omega arith))
-    (λ f. let l : 10 ≤ d = ltb-false d 10 f in rw f (value-lower (d + 87) (omega arith) (omega arith) ∙ omega arith))
+    (λ f. rw f (h (ltb-false d 10 f)))
 
 pub digit-read : {d c : ℕ} → DigitOf d c → d < 16 → digitValue c ≡ d
-digit-read {d} capital h = capital-value d h
-digit-read {d} lower h = lower-value d h
+unfolding digitByte lowerByte
+digit-read {d} capital h = value-back _ d (λ k. value-capital _ (omega arith) (omega arith) ∙ omega arith)
+digit-read {d} lower h = value-back _ d (λ k. value-lower _ (omega arith) (omega arith) ∙ omega arith)
 
 module _ {b high low : ℕ} (s : b < 256) (h : DigitOf (b / 16) high) (l : DigitOf (b % 16) low) where
   high-read : digitValue high ≡ b / 16
