@@ -15,6 +15,7 @@ extern "C" {
 /* ---- Sizes ---- */
 
 #define HAMMERLOOM_VARIABLES 32u           /* variables are 0 to 31 */
+#define HAMMERLOOM_DESKS 8u                /* desks are 0 to 7 */
 #define HAMMERLOOM_FRAME_BYTES 4u          /* a sheet frame or script line: K A B C */
 #define HAMMERLOOM_ANSWER_BYTES 6u         /* an answer: refusal number or 0, V, a word of four bytes */
 #define HAMMERLOOM_MOST_SHEET_FRAMES 200u  /* a sheet has 1 to 200 frames, up to 800 bytes */
@@ -36,13 +37,19 @@ extern "C" {
 #define HAMMERLOOM_EXISTS(frame, first, count) 0x05, (frame), (first), (count)
 #define HAMMERLOOM_FORALL(frame, first, count) 0x06, (frame), (first), (count)
 
-/* ---- Script lines, each four bytes of an initializer ---- */
+/* ---- Script lines, each four bytes of an initializer ----
+ * An entry keeps the desk that made it, which TAKE BACK and READ tell and no question depends on. */
 
-#define HAMMERLOOM_ENTER(variable, value) 0x10, (variable), (value), 0 /* V: entries now standing; word: 0 */
-#define HAMMERLOOM_TAKE_BACK 0x11, 0, 0, 0         /* the latest standing entry; V: its variable; word: its value */
-#define HAMMERLOOM_READ(place) 0x12, (place), 0, 0 /* place 0 is the oldest entry; V: its variable; word: its value */
+#define HAMMERLOOM_ENTER_AT(desk, variable, value) 0x10, (variable), (value), (desk) /* V: entries standing; word: 0 */
+#define HAMMERLOOM_ENTER(variable, value) HAMMERLOOM_ENTER_AT(0, variable, value)    /* where there is but one desk */
+#define HAMMERLOOM_TAKE_BACK 0x11, 0, 0, 0         /* the latest entry; V: its variable; word: 256 * desk + value */
+#define HAMMERLOOM_READ(place) 0x12, (place), 0, 0 /* place 0 is the oldest entry; V and word as for TAKE BACK */
 #define HAMMERLOOM_ASK 0x13, 0, 0, 0               /* V: 1 yes, 0 no; word: on yes the smallest setting, on no 0 */
 #define HAMMERLOOM_WHY 0x14, 0, 0, 0               /* V: the verdict of ASK; word: the mask of the reason */
+
+/* The parts of the word that tells an entry. */
+#define HAMMERLOOM_ENTRY_DESK(word) ((unsigned)((uint32_t)(word) >> 8))
+#define HAMMERLOOM_ENTRY_VALUE(word) ((unsigned)((uint32_t)(word)&0xFFu))
 
 /* ASK: can the open variables that are not entered be set so that the sheet is true? The word of a yes is the smallest
  * such setting of all open variables, the entered ones as entered and all other bits 0.
@@ -68,13 +75,14 @@ enum hammerloom_refusal {
 };
 
 /* Of one line, in the first byte of its answer; V and the word are then 0, the entries stay, and the script goes on.
- * The first of these that applies is told. */
+ * The first of these that applies is told, in the order in which they stand here. */
 enum hammerloom_line_refusal {
     HAMMERLOOM_LINE_ACCEPTED = 0,
-    HAMMERLOOM_LINE_REFUSED_FORM = 12,     /* kind not 10 to 14 hexadecimal, or its spare byte not 0 */
+    HAMMERLOOM_LINE_REFUSED_FORM = 12,     /* kind not 10 to 14 hexadecimal, or its spare byte not 0; ENTER has none */
     HAMMERLOOM_LINE_REFUSED_NOT_OPEN = 13, /* ENTER: variable not open in the last frame */
     HAMMERLOOM_LINE_REFUSED_VALUE = 14,    /* ENTER: value above 1 */
-    HAMMERLOOM_LINE_REFUSED_ENTERED = 15,  /* ENTER: variable already entered */
+    HAMMERLOOM_LINE_REFUSED_DESK = 24,     /* ENTER: desk above 7 */
+    HAMMERLOOM_LINE_REFUSED_ENTERED = 15,  /* ENTER: variable already entered, by whichever desk */
     HAMMERLOOM_LINE_REFUSED_NO_ENTRY = 16, /* TAKE BACK: no entry stands */
     HAMMERLOOM_LINE_REFUSED_PLACE = 17     /* READ: no entry at that place */
 };

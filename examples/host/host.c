@@ -13,8 +13,8 @@ static const uint8_t sheet[] = {
     HAMMERLOOM_INPUT(1),  HAMMERLOOM_AND(7, 8),                       /* 8, 9: the formula */
 };
 static const uint8_t script[] = {
-    HAMMERLOOM_ASK, HAMMERLOOM_WHY,       HAMMERLOOM_ENTER(1, 0), HAMMERLOOM_ASK,
-    HAMMERLOOM_WHY, HAMMERLOOM_TAKE_BACK, HAMMERLOOM_READ(0),     HAMMERLOOM_ENTER(2, 1),
+    HAMMERLOOM_ASK, HAMMERLOOM_WHY,       HAMMERLOOM_ENTER_AT(3, 1, 0), HAMMERLOOM_ASK,
+    HAMMERLOOM_WHY, HAMMERLOOM_TAKE_BACK, HAMMERLOOM_READ(0),           HAMMERLOOM_ENTER(2, 1),
 };
 enum { LINES = sizeof script / HAMMERLOOM_FRAME_BYTES, FILL = 0xA5 };
 
@@ -28,7 +28,8 @@ static void print_answer(uint8_t kind, const uint8_t *answers, size_t line) {
     else if (kind == 0x10)
         printf("ENTER, entries standing: %u\n", v);
     else if (kind == 0x11 || kind == 0x12)
-        printf("%s variable %u, value %" PRIu32 "\n", kind == 0x11 ? "TAKE BACK" : "READ", v, word);
+        printf("%s variable %u, value %u, entered at desk %u\n", kind == 0x11 ? "TAKE BACK" : "READ", v,
+               HAMMERLOOM_ENTRY_VALUE(word), HAMMERLOOM_ENTRY_DESK(word));
     else
         printf("%s %s, %s %08" PRIX32 "\n", kind == 0x13 ? "ASK" : "WHY", v ? "yes" : "no",
                kind == 0x13 ? "setting" : "reason", word);

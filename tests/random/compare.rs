@@ -1,12 +1,13 @@
-//! One run of the archive or of the program against the evaluator, byte by byte.
+//! One run of the archive or of the program against the evaluator, byte by byte; and two runs against each other.
 
-use crate::evaluator::{self, sheet::Refusal};
+use crate::archive::Outcome;
+use crate::evaluator::{self, sheet::Refusal, ANSWER};
 use crate::generate::texts;
 use crate::tally::Tally;
 use crate::{archive, program};
 
 /// Calls the archive with an answer buffer of the given content; the tally gets one check.
-pub fn call(tally: &mut Tally, run: u64, sheet: &[u8], script: &[u8], answers: &[u8], salt: u64) {
+pub fn call(tally: &mut Tally, run: u64, sheet: &[u8], script: &[u8], answers: &[u8], salt: u64) -> Outcome {
     let expected = evaluator::run(sheet, script, answers.len());
     tally.met.note(script, &expected);
     let outcome = archive::call(sheet, script, answers, salt);
@@ -19,9 +20,10 @@ pub fn call(tally: &mut Tally, run: u64, sheet: &[u8], script: &[u8], answers: &
             String::from_utf8_lossy(&texts::text(sheet, script)),
         )
     });
+    outcome
 }
 
-fn faults(expected: &Result<Vec<u8>, Refusal>, before: &[u8], outcome: &archive::Outcome) -> Vec<String> {
+fn faults(expected: &Result<Vec<u8>, Refusal>, before: &[u8], outcome: &Outcome) -> Vec<String> {
     let mut faults = Vec::new();
     let mut answers = before.to_vec();
     let result = match expected {
@@ -41,6 +43,38 @@ fn faults(expected: &Result<Vec<u8>, Refusal>, before: &[u8], outcome: &archive:
     }
     faults.extend(outcome.disturbed.iter().map(|what| format!("changed {what}")));
     faults
+}
+
+/// The runs of two scripts that differ in desks alone against each other, without the evaluator: they differ in nothing
+/// but the desks that READ and TAKE BACK tell. The tally gets one check.
+pub fn but_for_desks(tally: &mut Tally, run: u64, sheet: &[u8], scripts: &[Vec<u8>; 2], outcomes: &[Outcome; 2]) {
+    let [one, other] = outcomes;
+    let answers = |outcome: &Outcome| -> Vec<Vec<u8>> {
+        let lines = scripts[0].chunks_exact(4).zip(outcome.answers.chunks_exact(ANSWER));
+        lines.map(|(line, answer)| without_desk(line[0], answer)).collect()
+    };
+    // A refused run has no answers: its buffer holds what was lent.
+    let refused = one.result != 0;
+    let holds = one.result == other.result && (refused || answers(one) == answers(other));
+    tally.check(run, holds, || {
+        format!(
+            "returned {} and {}, answers {:02X?} and {:02X?}\n  for a script and then another of other desks:\n{}{}",
+            one.result,
+            other.result,
+            one.answers,
+            other.answers,
+            String::from_utf8_lossy(&texts::text(sheet, &scripts[0])),
+            String::from_utf8_lossy(&texts::text(&[], &scripts[1])),
+        )
+    });
+}
+
+/// An answer to a line of this kind, without its fifth byte where that is a desk.
+fn without_desk(kind: u8, answer: &[u8]) -> Vec<u8> {
+    match (kind, answer) {
+        (0x11 | 0x12, [before @ .., _, value]) => [before, &[*value]].concat(),
+        _ => answer.to_vec(),
+    }
 }
 
 /// Runs the program on a text; the tally gets one check.

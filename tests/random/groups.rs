@@ -1,5 +1,6 @@
 //! The groups of runs. Each takes its random numbers from the seed, its own number and the run's number.
 
+use crate::archive::Outcome;
 use crate::evaluator::sheet::{self, Sheet};
 use crate::evaluator::{literal, text, truth::Truth, ANSWER};
 use crate::generate::damage::{damaged, faulty, misruled};
@@ -30,6 +31,7 @@ pub const GROUPS: &[Group] = &[
     Group { name: "random runs", runs: |options| options.count, run: random },
     Group { name: "long scripts", runs: |options| options.count / 400, run: long_scripts },
     Group { name: "full tables", runs: |options| options.count / 2000, run: full_tables },
+    Group { name: "desks", runs: |options| options.count / 40, run: desks },
     Group { name: "single byte faults", runs: |options| options.count / 400, run: byte_faults },
     Group { name: "cut sheets and scripts", runs: |options| options.count / 400, run: cut },
     Group { name: "answer buffers of every length", runs: |options| options.count / 400, run: answer_buffers },
@@ -44,9 +46,9 @@ fn answer_buffer(rng: &mut Rng, script: &[u8]) -> Vec<u8> {
     rng.bytes(script.len() / 4 * ANSWER + more)
 }
 
-fn call(rng: &mut Rng, tally: &mut Tally, run: u64, sheet: &[u8], script: &[u8]) {
+fn call(rng: &mut Rng, tally: &mut Tally, run: u64, sheet: &[u8], script: &[u8]) -> Outcome {
     let answers = answer_buffer(rng, script);
-    compare::call(tally, run, sheet, script, &answers, rng.next());
+    compare::call(tally, run, sheet, script, &answers, rng.next())
 }
 
 /// A random accepted sheet and a script for it. A sheet that is true or false under every setting is drawn again, a few
@@ -95,7 +97,7 @@ fn sizes(_: &Options, rng: &mut Rng, run: u64, tally: &mut Tally) {
     }
 }
 
-const EDGES: &[u8] = &[0, 1, 2, 3, 4, 5, 6, 7, 16, 17, 30, 31, 32, 33, 128, 224, 255];
+const EDGES: &[u8] = &[0, 1, 2, 3, 4, 5, 6, 7, 8, 16, 17, 30, 31, 32, 33, 128, 224, 255];
 
 /// After INPUT 31, a frame of each kind and around, with one field from this run and the others of all edge values.
 fn edge_frames(_: &Options, rng: &mut Rng, run: u64, tally: &mut Tally) {
@@ -110,22 +112,26 @@ fn edge_frames(_: &Options, rng: &mut Rng, run: u64, tally: &mut Tally) {
     }
 }
 
-/// All lines of one first field, on a sheet with open variables 0 and 31, with an entry and without.
+/// All lines of one first field, on a sheet with open variables 0 and 31, with an entry and without. Then all ENTER
+/// lines with a TAKE BACK after each, so that none stands in the way of the next and every accepted one is told.
 fn edge_lines(_: &Options, rng: &mut Rng, run: u64, tally: &mut Tally) {
     let sheet = [0x01, 0, 0, 0, 0x01, 31, 0, 0, 0x04, 0, 1, 0];
     let a = EDGES[run as usize];
     for k in [0x00, 0x01, 0x0F, 0x10, 0x11, 0x12, 0x13, 0x14, 0x15, 0xFF] {
-        for first in [[0x13, 0, 0, 0], [0x10, 31, 1, 0]] {
+        for first in [[0x13, 0, 0, 0], [0x10, 31, 1, 7]] {
             let mut script = first.to_vec();
-            for &b in EDGES {
-                for &c in EDGES {
-                    script.extend([k, a, b, c]);
-                }
-            }
+            script.extend(edge_mixes(k, a).flatten());
             script.extend([0x12, 0, 0, 0, 0x12, 1, 0, 0, 0x14, 0, 0, 0]);
             call(rng, tally, run, &sheet, &script);
         }
     }
+    let script: Vec<u8> = edge_mixes(0x10, a).flat_map(|enter| [enter, [0x11, 0, 0, 0]]).flatten().collect();
+    call(rng, tally, run, &sheet, &script);
+}
+
+/// The lines of a kind and first field with every mix of edge values in the others.
+fn edge_mixes(k: u8, a: u8) -> impl Iterator<Item = [u8; 4]> {
+    EDGES.iter().flat_map(move |&b| EDGES.iter().map(move |&c| [k, a, b, c]))
 }
 
 /// Sheets and scripts of all shapes, one in eight damaged. Most are small: the large ones take the time.
@@ -158,6 +164,17 @@ fn full_tables(_: &Options, rng: &mut Rng, run: u64, tally: &mut Tally) {
     let mut script = vec![0x13, 0, 0, 0];
     script.extend(scripts::script(rng, accepted(&sheet).open, 14, 40));
     call(rng, tally, run, &sheet, &script);
+}
+
+/// Two scripts that differ in the desks of their ENTER lines alone, all 0 to 7. Both end with a READ of every place
+/// that an entry can have.
+fn desks(_: &Options, rng: &mut Rng, run: u64, tally: &mut Tally) {
+    let size = if run.is_multiple_of(5) { MIDDLE } else { SMALL };
+    let (sheet, mut script) = sheet_and_script(rng, size, 24, 30);
+    script.extend((0..size.variables as u8).flat_map(|place| [0x12, place, 0, 0]));
+    let scripts = [(); 2].map(|()| scripts::with_other_desks(rng, &script));
+    let outcomes = scripts.each_ref().map(|script| call(rng, tally, run, &sheet, script));
+    compare::but_for_desks(tally, run, &sheet, &scripts, &outcomes);
 }
 
 /// Each byte of a sheet and of a script in turn with three other values.

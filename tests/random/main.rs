@@ -23,7 +23,7 @@ const COUNT: u64 = 20_000;
 const THREADS: u64 = 2;
 /// All of a thread's stack, this program's own part included: what the header says that a call needs at most.
 const STACK: usize = 512 * 1024;
-/// From so many random runs on, every refusal, verdict and style of a text must have come up.
+/// From so many random runs on, every refusal, verdict and style of a text, and desks other than 0, must have come up.
 const ENOUGH: u64 = 5_000;
 
 fn main() -> ExitCode {

@@ -42,11 +42,17 @@ impl Tally {
     }
 }
 
-/// How often each refusal, and each kind of question with each verdict, came up in the expected answers, and random texts
-/// of each case and ending.
+/// The numbers that a call or a line is refused by; 1 is a text's alone.
+const REFUSALS: [u8; 17] = [2, 3, 4, 5, 6, 7, 8, 9, 10, 11, 12, 13, 14, 15, 16, 17, 24];
+
+/// How often each refusal, each kind of question with each verdict, and entries of desks other than 0 came up in the
+/// expected answers, and random texts of each case and ending.
 #[derive(Default)]
 pub struct Met {
-    refusals: [u64; 18],
+    /// In the order of the numbers' list.
+    refusals: [u64; REFUSALS.len()],
+    /// TAKE BACK and READ of an entry by a desk other than 0.
+    desks: [u64; 2],
     /// ASK no and yes, WHY no and yes, each with word 0 and with another.
     questions: [u64; 8],
     /// Texts with no letter, capitals, lower case, both; with no ending, 0A, 0D 0A, both. Each refused and accepted.
@@ -57,20 +63,28 @@ impl Met {
     pub fn note(&mut self, script: &[u8], expected: &Result<Vec<u8>, Refusal>) {
         let answers = match expected {
             Err(refusal) => {
-                self.refusals[usize::from(refusal.number)] += 1;
+                self.note_refusal(refusal.number);
                 return;
             }
             Ok(answers) => answers,
         };
         for (line, answer) in script.chunks_exact(4).zip(answers.chunks_exact(6)) {
-            if answer[0] != 0 {
-                self.refusals[usize::from(answer[0])] += 1;
-            } else if line[0] >= 0x13 {
-                let word = answer[2..].iter().any(|&byte| byte != 0);
-                let which = 4 * usize::from(line[0] - 0x13) + 2 * usize::from(answer[1]) + usize::from(word);
-                self.questions[which] += 1;
+            let word = u32::from_be_bytes(answer[2..].try_into().unwrap());
+            match (answer[0], line[0]) {
+                (0, kind @ (0x11 | 0x12)) => self.desks[usize::from(kind - 0x11)] += u64::from(word >= 256),
+                (0, kind @ (0x13 | 0x14)) => {
+                    let which = 4 * usize::from(kind - 0x13) + 2 * usize::from(answer[1]) + usize::from(word != 0);
+                    self.questions[which] += 1;
+                }
+                (0, _) => {}
+                (number, _) => self.note_refusal(number),
             }
         }
+    }
+
+    fn note_refusal(&mut self, number: u8) {
+        let place = REFUSALS.iter().position(|&listed| listed == number).expect("a listed refusal");
+        self.refusals[place] += 1;
     }
 
     /// Notes a text by its letters, and by its endings.
@@ -89,6 +103,9 @@ impl Met {
         for (count, more) in self.refusals.iter_mut().zip(other.refusals) {
             *count += more;
         }
+        for (count, more) in self.desks.iter_mut().zip(other.desks) {
+            *count += more;
+        }
         for (count, more) in self.questions.iter_mut().zip(other.questions) {
             *count += more;
         }
@@ -97,13 +114,18 @@ impl Met {
         }
     }
 
-    /// What came up fewer than so many times, of all that can: no call is refused by 0 or 1, and a no has no word. Texts
-    /// without a letter or an ending are not asked for.
+    /// What came up fewer than so many times, of all that can: a no has no word. Texts without a letter or an ending
+    /// are not asked for.
     pub fn lacks(&self, least: u64) -> Vec<String> {
         let mut lacks = Vec::new();
-        for (number, &count) in self.refusals.iter().enumerate().skip(2) {
+        for (number, &count) in REFUSALS.iter().zip(&self.refusals) {
             if count < least {
                 lacks.push(format!("refusal {number} {count} times"));
+            }
+        }
+        for (name, &count) in ["TAKE BACK", "READ"].iter().zip(&self.desks) {
+            if count < least {
+                lacks.push(format!("{name} of an entry by a desk other than 0 {count} times"));
             }
         }
         let names =

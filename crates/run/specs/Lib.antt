@@ -10,6 +10,7 @@ pub mod Verdicts
 pub mod Certificate
 pub mod CertificateScripts
 pub mod CertificateSession
+pub mod CertificateDesks
 pub mod Panel
 pub mod PanelHolds
 pub mod Written

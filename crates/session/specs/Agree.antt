@@ -22,6 +22,7 @@ entered-tail : {m : Meaning} {es : List Entry} (e : Entry) → Entered m (e ∷ 
 entered-tail e d = record {
   opened = λ i h. d .opened (suc i) (omega arith);
   valued = λ i h. d .valued (suc i) (omega arith);
+  desked = λ i h. d .desked (suc i) (omega arith);
   distinct = λ i j h l s. let q : suc i ≡ suc j = d .distinct (suc i) (suc j) (omega arith) (omega arith) s in omega arith;
 }
 

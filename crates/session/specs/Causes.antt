@@ -9,17 +9,20 @@ use borrow.Author.Tests.{ne-eqb}
 use Rattle.words.specs.Word.{bit}
 use Rattle.sheet.specs.Refusal as Number
 use Rattle.session.specs.declared.Entry.{Entry}
-use Rattle.session.specs.Model.{Meaning, enteredMask, ENTER, TAKE-BACK, READ, unknown, lineRefusal}
+use Rattle.session.specs.Model.{Meaning, enteredMask, ENTER, TAKE-BACK, READ, unknown, lastDesk, lineRefusal}
 use Rattle.session.specs.Entries.{bit-enteredMask}
 
 -- the variables that m has open are those of the word
 abbrev pub Opens : Meaning → ℕ → Type 0
 Opens m free = (v : ℕ) → m .opens v ≡ bit free v
 
--- an ENTER of a with value b, where the variables of the word free are open and those of mask are entered
-unfoldable pub enterCause : ℕ → ℕ → ℕ → ℕ → ℕ
-enterCause free mask a b =
-    cond (not (bit free a)) Number.enterNotFree (cond (ltb 1 b) Number.enterValue (cond (bit mask a) Number.enteredTwice 0))
+-- an ENTER of a with value b from desk c, where the variables of the word free are open and those of mask are entered
+unfoldable pub enterCause : ℕ → ℕ → ℕ → ℕ → ℕ → ℕ
+enterCause free mask a b c =
+    cond (not (bit free a)) Number.enterNotFree
+    (cond (ltb 1 b) Number.enterValue
+    (cond (ltb lastDesk c) Number.enterDesk
+    (cond (bit mask a) Number.enteredTwice 0)))
 
 module _ (m : Meaning) (es : List Entry) (k a b c : ℕ) where
   pub refusal-unknown : unknown k a b c ≡ true → lineRefusal m es k a b c ≡ Number.lineUnknown
@@ -27,7 +30,7 @@ module _ (m : Meaning) (es : List Entry) (k a b c : ℕ) where
   refusal-unknown e = rw e
 
   module _ (known : unknown k a b c ≡ false) where
-    pub refusal-enter : (free : ℕ) → Opens m free → k ≡ ENTER → lineRefusal m es k a b c ≡ enterCause free (enteredMask es) a b
+    pub refusal-enter : (free : ℕ) → Opens m free → k ≡ ENTER → lineRefusal m es k a b c ≡ enterCause free (enteredMask es) a b c
     unfolding lineRefusal enterCause
     refusal-enter free o e = rw (known, e, o a, bit-enteredMask es a)
 

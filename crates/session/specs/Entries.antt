@@ -16,12 +16,13 @@ use Rattle.formula.specs.Formula.{Formula, free}
 use Rattle.formula.specs.Ask.{freeMask}
 use Rattle.session.specs.declared.Entry.{Entry}
 pub use Rattle.session.specs.Model.{entryAt, valuePart}
-use Rattle.session.specs.Model.{Meaning, meaning, noEntry, enteredMask, enteredValues, entered}
+use Rattle.session.specs.Model.{Meaning, meaning, noEntry, enteredMask, enteredValues, entered, lastDesk}
 
--- every entry is of an open variable and has the value 0 or 1, and no two are of one variable
+-- every entry is of an open variable, has the value 0 or 1 and is of a desk from 0 to 7, and no two are of one variable
 pub record Entered (m : Meaning) (es : List Entry) : Type 0 where
   pub opened : (i : ℕ) → i < length es → m .opens (entryAt es i .variable) ≡ true
   pub valued : (i : ℕ) → i < length es → entryAt es i .value < 2
+  pub desked : (i : ℕ) → i < length es → entryAt es i .desk ≤ lastDesk
   pub distinct : (i j : ℕ) → i < length es → j < length es → entryAt es i .variable ≡ entryAt es j .variable → i ≡ j
 
 -- ---- which variables are entered
@@ -48,7 +49,12 @@ entered-snoc (d ∷ es) e x = by-bool (eqb x (d .variable)) (λ t. rw t) (λ t. 
 -- ---- what is kept
 
 pub none-entered : (m : Meaning) → Entered m []
-none-entered m = record { opened = λ i h. absurd (omega arith); valued = λ i h. absurd (omega arith); distinct = λ i j h. absurd (omega arith) }
+none-entered m = record {
+  opened = λ i h. absurd (omega arith);
+  valued = λ i h. absurd (omega arith);
+  desked = λ i h. absurd (omega arith);
+  distinct = λ i j h. absurd (omega arith);
+}
 
 module _ {m : Meaning} {es : List Entry} (e : Entry) (d : Entered m es) (fresh : entered es (e .variable) ≡ false) where
   abbrev more : List Entry
@@ -63,10 +69,11 @@ module _ {m : Meaning} {es : List Entry} (e : Entry) (d : Entered m es) (fresh :
   apart : (i : ℕ) → i < length es → e .variable ≡ entryAt more i .variable → ⊥
   apart i h s = clash (entered es (e .variable)) (rw (s, older i h) (entered-at es i h)) fresh
 
-  pub entered-more : m .opens (e .variable) ≡ true → e .value < 2 → Entered m (es ++ (e ∷ []))
-  entered-more o v = record {
+  pub entered-more : m .opens (e .variable) ≡ true → e .value < 2 → e .desk ≤ lastDesk → Entered m (es ++ (e ∷ []))
+  entered-more o v w = record {
     opened = λ i h. by-bool (ltb i (length es)) (λ t. rw (older i (omega tests)) (d .opened i (omega tests))) (λ t. rw (newest i h (omega tests)) o);
     valued = λ i h. by-bool (ltb i (length es)) (λ t. rw (older i (omega tests)) (d .valued i (omega tests))) (λ t. rw (newest i h (omega tests)) v);
+    desked = λ i h. by-bool (ltb i (length es)) (λ t. rw (older i (omega tests)) (d .desked i (omega tests))) (λ t. rw (newest i h (omega tests)) w);
     distinct = λ i j h l s. by-bool (ltb i (length es))
         (λ t. by-bool (ltb j (length es))
         (λ u. d .distinct i j (omega tests) (omega tests) (rw (older i (omega tests), older j (omega tests)) at s))
@@ -80,6 +87,7 @@ pub entered-less : {m : Meaning} {es : List Entry} (n : ℕ) → Entered m es �
 entered-less {m} {es} n d = record {
   opened = λ i h. rw (same i h) (d .opened i (shorter i h));
   valued = λ i h. rw (same i h) (d .valued i (shorter i h));
+  desked = λ i h. rw (same i h) (d .desked i (shorter i h));
   distinct = λ i j h l s. d .distinct i j (shorter i h) (shorter j l) (rw (same i h, same j l) at s);
 }
   where

@@ -5,6 +5,7 @@ pub mod Line
 pub mod Kinds
 pub mod Invariant
 pub mod Script
+pub mod Desks
 pub mod Agree
 pub mod Read
 pub mod Sound

@@ -1,5 +1,5 @@
--- A line of the reference model is refused exactly if a cause of document 01's table holds, and then it changes nothing. Assumes nothing.
-use Prim.Native.Nat.{ℕ, _<_, suc-le-suc}
+-- A line of the reference model is refused exactly if a cause of the rules' table holds, and then it changes nothing. Assumes nothing.
+use Prim.Native.Nat.{ℕ, _≤_, _<_, suc-le-suc}
 use native.Mathlib.Omega.{arith}
 use mathlib.Core.Path.{_≡_, refl, sym, ap, _∙_}
 use mathlib.Core.Bool.{Bool, true, false, not, cond, _&&_}
@@ -11,13 +11,14 @@ use Rattle.words.specs.Logic.{by-bool, tests, not-false}
 use Rattle.sheet.specs.Refusal as Number
 use Rattle.session.specs.declared.Entry.{Entry}
 pub use Rattle.session.specs.Refused.{line-refused, line-taken}
-use Rattle.session.specs.Model.{Meaning, entered, refused, Reply, ENTER, TAKE-BACK, READ, ASK, unknown, lineRefusal, obeyed, line}
+use Rattle.session.specs.Model.{Meaning, entered, refused, Reply, ENTER, TAKE-BACK, READ, ASK, unknown, lastDesk, lineRefusal, obeyed, line}
 
--- no cause of document 01's table refuses the line
+-- no cause of the rules' table refuses the line
 pub record Passes (m : Meaning) (es : List Entry) (k a b c : ℕ) : Type 0 where
   pub known : unknown k a b c ≡ false
   pub opened : k ≡ ENTER → m .opens a ≡ true
   pub valued : k ≡ ENTER → b < 2
+  pub desked : k ≡ ENTER → c ≤ lastDesk
   pub fresh : k ≡ ENTER → entered es a ≡ false
   pub standing : k ≡ TAKE-BACK → 0 < length es
   pub there : k ≡ READ → a < length es
@@ -45,13 +46,15 @@ module _ (m : Meaning) (es : List Entry) (k a b c : ℕ) where
       let r12 = cond-zero _ Number.lineUnknown _ tt e in
       let r13 = cond-zero _ Number.enterNotFree _ tt (r12 .1) in
       let r14 = cond-zero _ Number.enterValue _ tt (r13 .1) in
-      let r15 = cond-zero _ Number.enteredTwice _ tt (r14 .1) in
+      let r24 = cond-zero _ Number.enterDesk _ tt (r14 .1) in
+      let r15 = cond-zero _ Number.enteredTwice _ tt (r24 .1) in
       let r16 = cond-zero _ Number.nothingEntered _ tt (r15 .1) in
       let r17 = cond-zero _ Number.noEntryThere _ tt (r16 .1) in
       record {
         known = r12 .0;
         opened = λ h. not-false (m .opens a) (of-kind ENTER k (not (m .opens a)) (r13 .0) h);
         valued = λ h. suc-le-suc (ltb-false 1 b (of-kind ENTER k (ltb 1 b) (r14 .0) h));
+        desked = λ h. ltb-false lastDesk c (of-kind ENTER k (ltb lastDesk c) (r24 .0) h);
         fresh = λ h. of-kind ENTER k (entered es a) (r15 .0) h;
         standing = λ h. not-zero (of-kind TAKE-BACK k (eqb (length es) 0) (r16 .0) h);
         there = λ h. leb-false (length es) a (of-kind READ k (leb (length es) a) (r17 .0) h);
@@ -64,12 +67,13 @@ module _ (m : Meaning) (es : List Entry) (k a b c : ℕ) where
         p .known,
         unless-kind ENTER k (not (m .opens a)) (λ h. rw (p .opened h)),
         unless-kind ENTER k (ltb 1 b) (λ h. omega (tests, p .valued h)),
+        unless-kind ENTER k (ltb lastDesk c) (λ h. omega (tests, p .desked h)),
         unless-kind ENTER k (entered es a) (p .fresh),
         unless-kind TAKE-BACK k (eqb (length es) 0) (λ h. omega (tests, p .standing h)),
         unless-kind READ k (leb (length es) a) (λ h. omega (tests, p .there h)),
       )
 
-  obeyed-number : obeyed m es k a b .answer .number ≡ 0
+  obeyed-number : obeyed m es k a b c .answer .number ≡ 0
   unfolding obeyed
   obeyed-number = by-bool (eqb k ENTER) (λ t. rw t)
       (λ t. by-bool (eqb k TAKE-BACK) (λ u. rw (t, u)) (λ u. by-bool (eqb k READ) (λ v. rw (t, u, v)) (λ v. by-bool (eqb k ASK) (λ w. rw (t, u, v, w)) (λ w. rw (t, u, v, w)))))

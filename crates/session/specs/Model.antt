@@ -28,7 +28,7 @@ meaning n f = record { opens = λ x. ltb x n && free f x; asks = ask n f; whys =
 
 -- read where no entry stands
 abbrev pub noEntry : Entry
-noEntry = record { variable = 0; value = 0 }
+noEntry = record { variable = 0; value = 0; desk = 0 }
 
 -- entry i, 0 being the oldest
 abbrev pub entryAt : List Entry → ℕ → Entry
@@ -77,7 +77,7 @@ counted v = record { number = 0; v = v; word = 0 }
 
 -- an entry, as TAKE BACK and READ tell it
 abbrev pub told : Entry → Answer
-told e = record { number = 0; v = e .variable; word = e .value }
+told e = record { number = 0; v = e .variable; word = 256 * e .desk + e .value }
 
 -- a verdict, as ASK and WHY tell it
 abbrev pub judged : Verdict → Answer
@@ -102,21 +102,26 @@ WHY = 0x14
 
 -- how many of the bytes a, b, c a kind uses; those behind them are spare
 unfoldable pub used : ℕ → ℕ
-used k = cond (eqb k ENTER) 2 (cond (eqb k READ) 1 0)
+used k = cond (eqb k ENTER) 3 (cond (eqb k READ) 1 0)
 
 -- the kind is none of the five, or a spare byte is not 0
 unfoldable pub unknown : ℕ → ℕ → ℕ → ℕ → Bool
 unknown k a b c = ltb k ENTER || (ltb WHY k || spareSet (used k) a b c)
 
--- the number by which a line is refused, in document 01's order for a line, or 0
+-- the desks that may enter are 0 to 7
+abbrev pub lastDesk : ℕ
+lastDesk = 7
+
+-- the number by which a line is refused, or 0: document 01's order for a line, with the desk between the value and the second entry
 unfoldable pub lineRefusal : Meaning → List Entry → ℕ → ℕ → ℕ → ℕ → ℕ
 lineRefusal m es k a b c =
     cond (unknown k a b c) Number.lineUnknown
     (cond (eqb k ENTER && not (m .opens a)) Number.enterNotFree
     (cond (eqb k ENTER && ltb 1 b) Number.enterValue
+    (cond (eqb k ENTER && ltb lastDesk c) Number.enterDesk
     (cond (eqb k ENTER && entered es a) Number.enteredTwice
     (cond (eqb k TAKE-BACK && eqb (length es) 0) Number.nothingEntered
-    (cond (eqb k READ && leb (length es) a) Number.noEntryThere 0)))))
+    (cond (eqb k READ && leb (length es) a) Number.noEntryThere 0))))))
 
 -- what a line answers, and the entries that stand after it
 pub record Reply : Type 0 where
@@ -127,9 +132,9 @@ abbrev pub reply : Answer → List Entry → Reply
 reply a es = record { answer = a; entries = es }
 
 -- a line that no cause refuses
-unfoldable pub obeyed : Meaning → List Entry → ℕ → ℕ → ℕ → Reply
-obeyed m es k a b =
-    let enter = reply (counted (length es + 1)) (es ++ (record { variable = a; value = b } ∷ [])) in
+unfoldable pub obeyed : Meaning → List Entry → ℕ → ℕ → ℕ → ℕ → Reply
+obeyed m es k a b c =
+    let enter = reply (counted (length es + 1)) (es ++ (record { variable = a; value = b; desk = c } ∷ [])) in
     let takeBack = reply (told (entryAt es (length es - 1))) (take (length es - 1) es) in
     let read = reply (told (entryAt es a)) es in
     let ask = reply (judged (m .asks (enteredMask es) (enteredValues es))) es in
@@ -139,7 +144,7 @@ obeyed m es k a b =
 unfoldable pub line : Meaning → List Entry → ℕ → ℕ → ℕ → ℕ → Reply
 line m es k a b c =
     let number = lineRefusal m es k a b c in
-    let obey = obeyed m es k a b in
+    let obey = obeyed m es k a b c in
     cond (eqb number 0) obey (reply (refused number) es)
 
 -- ---- a script: its bytes s, four a line

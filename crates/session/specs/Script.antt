@@ -14,8 +14,10 @@ use Rattle.session.specs.Entries.{Entered, none-entered}
 use Rattle.session.specs.Invariant.{line-keeps}
 
 -- an answer's six bytes
-pub answerBytes-are : (a : Answer)
-    → answerBytes a ≡ a .number ∷ a .v ∷ a .word / 2 ^ 24 % 256 ∷ a .word / 2 ^ 16 % 256 ∷ a .word / 2 ^ 8 % 256 ∷ a .word % 256 ∷ []
+abbrev pub sixBytes : Answer → List ℕ
+sixBytes a = a .number ∷ a .v ∷ a .word / 2 ^ 24 % 256 ∷ a .word / 2 ^ 16 % 256 ∷ a .word / 2 ^ 8 % 256 ∷ a .word % 256 ∷ []
+
+pub answerBytes-are : (a : Answer) → answerBytes a ≡ sixBytes a
 unfolding answerBytes
 answerBytes-are a = ap (λ (l : List ℕ). a .number ∷ a .v ∷ l) (four-bytes (a .word))
 

@@ -140,7 +140,7 @@ module _ {s : List ℕ} {free : ℕ} {x : Session} {u o : List ℕ} (d : Sound s
     -- one more entry has its place
     pub enter-room : k ≡ ENTER → x .len < 32
     enter-room e =
-        let D = entered-more (record { variable = a; value = b }) (d .entered) (passes .fresh e) (passes .opened e) (passes .valued e) in
+        let D = entered-more (record { variable = a; value = b; desk = c }) (d .entered) (passes .fresh e) (passes .opened e) (passes .valued e) (passes .desked e) in
         omega (arith, simp length-append at (entries-at-most variables (root s) D), sound-length d)
 
     pub enter-fresh : k ≡ ENTER → Fresh x a
@@ -153,12 +153,12 @@ module _ {s : List ℕ} {free : ℕ} {x : Session} {u o : List ℕ} (d : Sound s
     read-there e = omega (arith, passes .there e, sound-length d)
 
     -- what a taken line does is given as the reply y, and it is no ASK
-    obeys-step : {y : Reply} → obeyed m es k a b ≡ y → (k ≡ ASK → ⊥) → {x' : Session} {n v w : ℕ}
+    obeys-step : {y : Reply} → obeyed m es k a b c ≡ y → (k ≡ ASK → ⊥) → {x' : Session} {n v w : ℕ}
         → Replies x y x' n v w → Step s free x u o k a b c x' u o n v w
     obeys-step e q r = replies-step (λ z. q) (rw (line-taken m es k a b c taken, e) r)
 
     pub enter-step : k ≡ ENTER → {x' : Session} {n v w : ℕ}
-        → Replies x (reply (counted (length es + 1)) (es ++ (record { variable = a; value = b } ∷ []))) x' n v w → Step s free x u o k a b c x' u o n v w
+        → Replies x (reply (counted (length es + 1)) (es ++ (record { variable = a; value = b; desk = c } ∷ []))) x' n v w → Step s free x u o k a b c x' u o n v w
     unfolding obeyed
     enter-step e r = obeys-step (rw e) (λ z. omega arith) r
 
@@ -173,7 +173,7 @@ module _ {s : List ℕ} {free : ℕ} {x : Session} {u o : List ℕ} (d : Sound s
     read-step e r = obeys-step (rw e) (λ z. omega arith) r
 
     -- an ASK or a WHY, which tells the verdict g
-    searches-step : {g : Verdict} → obeyed m es k a b ≡ reply (judged g) es → searches k ≡ true → {x' : Session} {u' o' : List ℕ} {n v w : ℕ}
+    searches-step : {g : Verdict} → obeyed m es k a b c ≡ reply (judged g) es → searches k ≡ true → {x' : Session} {u' o' : List ℕ} {n v w : ℕ}
         → Searches s x u o g x' u' o' n v w → (k ≡ ASK → PromisedFor s es u' (x' .under) o' (x' .over)) → Step s free x u o k a b c x' u' o' n v w
     searches-step e q {x'} r p =
         let l = line-taken m es k a b c taken ∙ e in

@@ -1,4 +1,4 @@
-// Why a line is refused: document 01's causes 12 to 17 in their order.
+// Why a line is refused: causes 12 to 17 and 24 in their order.
 ghost use mathlib.Core.Path.{_≡_};
 ghost use mathlib.Core.Bool.{cond};
 ghost use lib.Dec.{eqb, leb};
@@ -23,12 +23,15 @@ pub const ASK: u8 = 0x13;
 
 pub const WHY: u8 = 0x14;
 
+// The desks that may enter are 0 to this one.
+const LAST_DESK: u8 = 7;
+
 // How many of the bytes A B C a kind uses.
 fn used(k: u8) -> u8
     ensures { λ r. ⌜ r ≡ Model.used k ⌝ }
 {
     if k == ENTER {
-        return 2;
+        return 3;
     }
     if k == READ {
         return 1;
@@ -60,14 +63,17 @@ fn has(word: u32, variable: u8) -> bool
 }
 
 // Why an ENTER is refused, or 0.
-fn enter_cause(free: u32, mask: u32, a: u8, b: u8) -> u8
-    ensures { λ r. ⌜ r ≡ enterCause free mask a b ⌝ }
+fn enter_cause(free: u32, mask: u32, a: u8, b: u8, c: u8) -> u8
+    ensures { λ r. ⌜ r ≡ enterCause free mask a b c ⌝ }
 {
     if !has(free, a) {
         return refusal::ENTER_NOT_FREE;
     }
     if b > 1 {
         return refusal::ENTER_VALUE;
+    }
+    if c > LAST_DESK {
+        return refusal::ENTER_DESK;
     }
     if has(mask, a) {
         return refusal::ENTERED_TWICE;
@@ -104,7 +110,7 @@ pub fn line_cause(session: Session, free: u32, k: u8, a: u8, b: u8, c: u8) -> u8
         return refusal::LINE_UNKNOWN;
     }
     if k == ENTER {
-        return enter_cause(free, session.entered.mask, a, b);
+        return enter_cause(free, session.entered.mask, a, b, c);
     }
     if k == TAKE_BACK {
         return take_back_cause(session.len);

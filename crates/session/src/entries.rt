@@ -17,6 +17,7 @@ pub fn empty() -> Session
     let none = Entry {
         variable: 0,
         value: 0,
+        desk: 0,
     };
     Session {
         entries: [none; 32],

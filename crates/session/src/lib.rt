@@ -6,10 +6,11 @@ pub mod line;
 
 use cube::Cube;
 
-// A variable that is entered, and its value.
+// A variable that is entered, its value, and the desk that entered it.
 pub struct Entry {
     pub variable: u8,
     pub value: u8,
+    pub desk: u8,
 }
 
 // The first `len` entries stand, oldest first, and `entered` fixes their variables at their values, so that no line walks them; the first `under` and

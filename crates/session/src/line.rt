@@ -40,16 +40,21 @@ fn tell_entry(entry: Entry) -> Answer
     Answer {
         number: 0,
         v: entry.variable,
-        word: entry.value as u32,
+        word: 256 * (entry.desk as u32) + entry.value as u32,
     }
 }
 
-fn enter(session: Session, variable: u8, value: u8) -> Stepped
+fn enter(session: Session, variable: u8, value: u8, desk: u8) -> Stepped
     requires { ⌜ Shaped session × (session .len < 32) × Fresh session variable ⌝ }
-    ensures { λ r. ⌜ Replies session (reply (counted (length (standingOf session) + 1)) (standingOf session ++ (record { variable = variable; value = value } ∷ []))) (r .session) (r .answer .number) (r .answer .v) (r .answer .word) ⌝ }
+    ensures { λ r. ⌜ Replies session (reply (counted (length (standingOf session) + 1)) (standingOf session ++ (record { variable = variable; value = value; desk = desk } ∷ []))) (r .session) (r .answer .number) (r .answer .v) (r .answer .word) ⌝ }
 {
     let n = session.len + 1;
-    let longer = entries::append(session, Entry { variable, value });
+    let entry = Entry {
+        variable,
+        value,
+        desk,
+    };
+    let longer = entries::append(session, entry);
     let answer = Answer {
         number: 0,
         v: n as u8,
@@ -176,7 +181,7 @@ pub fn step(
         return refuse(session, number);
     }
     if k == ENTER {
-        return enter(session, a, b);
+        return enter(session, a, b, c);
     }
     if k == TAKE_BACK {
         return take_back(session);

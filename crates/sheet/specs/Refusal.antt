@@ -1,4 +1,4 @@
--- The numbers of document 01's causes of a refusal; src/refusal.rt has the same. 0 is no refusal. Assumes nothing.
+-- The numbers of all causes of a refusal; src/refusal.rt has the same. 0 is no refusal. Assumes nothing.
 use Prim.Native.Nat.{ℕ}
 
 -- a text line is not eight digits or is unended; the empty line is missing or there is a second
@@ -63,3 +63,7 @@ nothingEntered = 16
 -- READ: no entry at that place
 abbrev pub noEntryThere : ℕ
 noEntryThere = 17
+
+-- ENTER: the desk is above 7
+abbrev pub enterDesk : ℕ
+enterDesk = 24

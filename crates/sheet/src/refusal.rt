@@ -1,4 +1,4 @@
-// The numbers of document 01's causes of a refusal, once for the whole library; specs/Refusal.antt has the same for contracts.
+// The numbers of all causes of a refusal, once for the whole library; specs/Refusal.antt has the same for contracts.
 pub const TEXT_SHAPE: u8 = 1;
 
 pub const NOT_WHOLE: u8 = 2;
@@ -32,3 +32,5 @@ pub const ENTERED_TWICE: u8 = 15;
 pub const NOTHING_ENTERED: u8 = 16;
 
 pub const NO_ENTRY_THERE: u8 = 17;
+
+pub const ENTER_DESK: u8 = 24;

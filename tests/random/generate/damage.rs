@@ -4,7 +4,7 @@ use crate::rng::Rng;
 
 /// A value other than the byte's: a neighbour, a flipped bit, an edge of the rules, or any.
 pub fn faulty(rng: &mut Rng, byte: u8) -> u8 {
-    let edges = [0, 1, 2, 5, 6, 7, 0x0F, 0x10, 0x14, 0x15, 31, 32, 33, 199, 200, 255];
+    let edges = [0, 1, 2, 5, 6, 7, 8, 0x0F, 0x10, 0x14, 0x15, 31, 32, 33, 199, 200, 255];
     let value = match rng.below(4) {
         0 => rng.pick(&[byte.wrapping_add(1), byte.wrapping_sub(1)]),
         1 => byte ^ 1 << rng.below(8),

@@ -11,8 +11,8 @@ add-n c = search needs
 append-requires : tie.Need-append-requires
 append-requires c κs = search needs
 
-cast-t8 : tie.Need-cast-t8
-cast-t8 c = search needs
+cast-t9 : tie.Need-cast-t9
+cast-t9 c = search needs
 
 returns : tie.Need-returns
 returns c =
@@ -23,4 +23,4 @@ returns c =
     }
 
 pub enter-spec : {M : Type 1} → statement M
-enter-spec = tie.close (tie.spec add-n append-requires cast-t8 returns)
+enter-spec = tie.close (tie.spec add-n append-requires cast-t9 returns)
