@@ -17,7 +17,7 @@ use Rattle.run.specs.Run.{book, before}
 pub kept-accepted : (sheet : List ℕ) → Keeps sheet → Accepted sheet
 kept-accepted sheet K = accepted-sheet sheet (ap (λ (r : Refusal). r .number) (accepted-exactly sheet .1 K))
 
--- open, distinct, valued 0 or 1
+-- open, distinct, valued 0 or 1, from desks 0 to 7
 pub before-entered : (sheet script : List ℕ) (i : ℕ) → Entered (book sheet) (before sheet script i)
 before-entered sheet script i = after-keeps (book sheet) [] script (none-entered (book sheet)) i
 

@@ -9,10 +9,11 @@ use lib.ListN.{length, getD, take, length-map, List·getD-map}
 use lib.Dec.{eqb}
 use borrow.Author.Tests.{le-ltb}
 use Rattle.words.specs.Logic.{by-bool, clash, or-left, or-right, tests}
+use Rattle.words.specs.Word.{bit}
 use Rattle.sheet.specs.Rules.{spareSet}
 use Rattle.session.specs.declared.Entry.{Entry}
 use Rattle.session.specs.Model.{Meaning, noEntry, entered, enteredMask, enteredValues, Answer, answerBytes, told, Reply, ENTER, TAKE-BACK, READ, ASK, used, unknown, lastDesk, lineRefusal, obeyed, line, lineAt, after, answerAt}
-use Rattle.session.specs.Entries.{Entered, entryAt}
+use Rattle.session.specs.Entries.{Entered, entryAt, bit-enteredMask}
 use Rattle.session.specs.Line.{Passes, refusal-none, line-refused, line-taken}
 use Rattle.session.specs.Script.{sixBytes, answerBytes-are, after-keeps}
 
@@ -46,7 +47,7 @@ pub record SameButDesk (k : ℕ) (x y : Answer) : Type 0 where
   pub v : x .v ≡ y .v
   -- the whole word, where no entry is told
   pub word : tellsEntry k ≡ false → x .word ≡ y .word
-  -- and always what is not its second byte
+  -- and always the bits that tell no desk, those below 8 and from 16 on
   pub low : x .word % 256 ≡ y .word % 256
   pub high : x .word / 2 ^ 16 ≡ y .word / 2 ^ 16
 
@@ -75,11 +76,6 @@ map-take f zero l = refl
 map-take f (suc n) [] = refl
 map-take {B = B} f (suc n) (x ∷ l) = ap (λ (r : List B). f x ∷ r) (map-take f n l)
 
-entered-without : (es : List Entry) (x : ℕ) → entered (withoutDesks es) x ≡ entered es x
-unfolding entered
-entered-without [] x = refl
-entered-without (e ∷ es) x = rw (entered-without es x)
-
 mask-without : (es : List Entry) → enteredMask (withoutDesks es) ≡ enteredMask es
 unfolding enteredMask
 mask-without [] = refl
@@ -91,17 +87,21 @@ values-without [] = refl
 values-without (e ∷ es) = rw (values-without es)
 
 module _ (es ds : List Entry) (same : withoutDesks es ≡ withoutDesks ds) where
-  same-length : length es ≡ length ds
-  same-length = sym (length-map es withoutDesk) ∙ ap (λ (l : List Entry). length l) same ∙ length-map ds withoutDesk
+  -- what does not look at desks is the same of both
+  same-read : {B : Type 0} (f : List Entry → B) → ((l : List Entry) → f (withoutDesks l) ≡ f l) → f es ≡ f ds
+  same-read f blind = sym (blind es) ∙ ap f same ∙ blind ds
 
-  same-entered : (x : ℕ) → entered es x ≡ entered ds x
-  same-entered x = sym (entered-without es x) ∙ ap (λ (l : List Entry). entered l x) same ∙ entered-without ds x
+  same-length : length es ≡ length ds
+  same-length = same-read (λ l. length l) (λ l. length-map l withoutDesk)
 
   same-mask : enteredMask es ≡ enteredMask ds
-  same-mask = sym (mask-without es) ∙ ap enteredMask same ∙ mask-without ds
+  same-mask = same-read enteredMask mask-without
 
   same-values : enteredValues es ≡ enteredValues ds
-  same-values = sym (values-without es) ∙ ap enteredValues same ∙ values-without ds
+  same-values = same-read enteredValues values-without
+
+  same-entered : (x : ℕ) → entered es x ≡ entered ds x
+  same-entered x = sym (bit-enteredMask es x) ∙ ap (λ (w : ℕ). bit w x) same-mask ∙ bit-enteredMask ds x
 
   same-at : (i : ℕ) → withoutDesk (entryAt es i) ≡ withoutDesk (entryAt ds i)
   same-at i = sym (List·getD-map withoutDesk es i noEntry) ∙ ap (λ (l : List Entry). getD l i noEntry) same ∙ List·getD-map withoutDesk ds i noEntry
