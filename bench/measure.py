@@ -62,6 +62,22 @@ def archive():
     return path.resolve()
 
 
+def built(name, variable):
+    """The program of that name under target/bin, or what the variable names."""
+    path = pathlib.Path(os.environ.get(variable, ROOT / "target" / "bin" / name))
+    if not os.access(path, os.X_OK):
+        fail(f"no program at {path} (rt check writes it)")
+    return path.resolve()
+
+
+def printed(program, text):
+    """What our program prints for a text."""
+    ended = subprocess.run([program], input=text, capture_output=True, timeout=20 * LIMIT)
+    if ended.returncode != 0 or ended.stderr:
+        fail(f"{program} ended with status {ended.returncode}: {ended.stderr.decode(errors='replace')}")
+    return ended.stdout
+
+
 def ours_program(name="ours", path=None):
     """The program that asks the archive at that path, or the usual one."""
     return compiled(name, "ours.rs", "-C", "opt-level=2", "-C", f"link-arg={path or archive()}")

@@ -59,7 +59,8 @@ extern "C" {
 /* ---- Refusals ---- */
 
 /* Of a whole call, in the result. They are looked for in this order, frame by frame from 6 to 10, and the first one
- * found is told. (Number 1 is a text reader's and no call is refused by it.) */
+ * found is told. (Number 1 is a text reader's, 18 and 19 are the QDIMACS reader's, and no call is refused
+ * by them.) */
 enum hammerloom_refusal {
     HAMMERLOOM_ACCEPTED = 0,
     HAMMERLOOM_REFUSED_PART_FRAME = 2,    /* sheet empty, or sheet or script not of whole frames; place 0 */

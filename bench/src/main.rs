@@ -21,14 +21,17 @@ mod rng;
 use evaluator::sheet::{self, Sheet};
 use families::scale::SWEEPS;
 use families::{FAMILIES, SHEETS};
+use generate::question_texts;
 use std::path::{Path, PathBuf};
 use std::process::ExitCode;
 use std::{fs, io};
 
-const USAGE: &str = "usage: sheets FOLDER | scale FOLDER | random FOLDER COUNT SEED | smtlib | qdimacs | check
+const USAGE: &str =
+    "usage: sheets FOLDER | scale FOLDER | random FOLDER COUNT SEED | questions FOLDER COUNT SEED | smtlib | qdimacs | check
   sheets   every family's sheets, each as bytes and in both formats, and their list
   scale    the sheets of growing size
   random   small random sheets as for `sheets`, with the verdict of the brute-force evaluator in the list
+  questions   small random questions in QDIMACS, with the verdict by brute force in the list
   smtlib, qdimacs   converts the sheet of a text on standard input
   check    the generator and the converters against the brute-force evaluator";
 
@@ -38,8 +41,9 @@ fn main() -> ExitCode {
     let done = match words[..] {
         ["sheets", folder] => write_families(Path::new(folder)),
         ["scale", folder] => write_sweeps(Path::new(folder)),
-        ["random", folder, count, seed] => match (count.parse(), seed.parse()) {
-            (Ok(count), Ok(seed)) => write_random(Path::new(folder), count, seed),
+        [what @ ("random" | "questions"), folder, count, seed] => match (count.parse(), seed.parse()) {
+            (Ok(count), Ok(seed)) if what == "random" => write_random(Path::new(folder), count, seed),
+            (Ok(count), Ok(seed)) => write_questions(Path::new(folder), count, seed),
             _ => return usage(),
         },
         ["smtlib"] => convert(|sheet| Some(smtlib::smtlib(sheet))),
@@ -114,6 +118,18 @@ fn write_random(folder: &Path, count: usize, seed: u64) -> io::Result<()> {
         let verdict = if check::verdict(&bytes) { "yes" } else { "no" };
         write_sheet(folder, &format!("random-{index}"), &bytes)?;
         list += &format!("{verdict} random-{index}\n");
+    }
+    fs::write(folder.join("list"), list)
+}
+
+/// The list has a line `VERDICT NAME` for each question.
+fn write_questions(folder: &Path, count: usize, seed: u64) -> io::Result<()> {
+    let mut list = String::new();
+    for index in 0..count {
+        let question = check::random_question(seed, index as u64);
+        let verdict = if check::question_verdict(&question) { "yes" } else { "no" };
+        fs::write(folder.join(format!("question-{index}.qdimacs")), question_texts::plain(&question))?;
+        list += &format!("{verdict} question-{index}\n");
     }
     fs::write(folder.join("list"), list)
 }

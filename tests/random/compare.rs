@@ -1,7 +1,9 @@
-//! One run of the archive or of the program against the evaluator, byte by byte; and two runs against each other.
+//! One run of the archive or of a program against the evaluator, byte by byte; and two runs against each other.
 
 use crate::archive::Outcome;
-use crate::evaluator::{self, sheet::Refusal, ANSWER};
+use crate::evaluator::question::{self, settings, Cause, Question};
+use crate::evaluator::sheet::{self, Refusal};
+use crate::evaluator::{self, truth::Truth, ANSWER};
 use crate::generate::texts;
 use crate::tally::Tally;
 use crate::{archive, program};
@@ -79,14 +81,17 @@ fn without_desk(kind: u8, answer: &[u8]) -> Vec<u8> {
 
 /// Runs the program on a text; the tally gets one check.
 pub fn text(tally: &mut Tally, run: u64, path: &str, text: &[u8], pieces: usize) {
-    let expected = evaluator::text::printed(text);
     let printed = program::printed(path, text, pieces);
-    tally.check(run, printed.as_ref() == Ok(&expected), || {
-        let got = match &printed {
+    prints(tally, run, text, &printed, &evaluator::text::printed(text));
+}
+
+fn prints(tally: &mut Tally, run: u64, text: &[u8], printed: &Result<Vec<u8>, String>, expected: &[u8]) {
+    tally.check(run, printed.as_deref() == Ok(expected), || {
+        let got = match printed {
             Ok(bytes) => format!("printed {:?}", String::from_utf8_lossy(bytes)),
             Err(error) => error.clone(),
         };
-        format!("{got}\n  expected {:?}\n  for {}", String::from_utf8_lossy(&expected), shown(text))
+        format!("{got}\n  expected {:?}\n  for {}", String::from_utf8_lossy(expected), shown(text))
     });
 }
 
@@ -94,6 +99,57 @@ pub fn text(tally: &mut Tally, run: u64, path: &str, text: &[u8], pieces: usize)
 pub fn reading(tally: &mut Tally, run: u64, text: &[u8], written: &Result<(Vec<u8>, Vec<u8>), Refusal>) {
     let holds = evaluator::text::read(text) == *written;
     tally.check(run, holds, || format!("the evaluator reads something else than was written\n  from {}", shown(text)));
+}
+
+/// Small questions are tried under every setting.
+const FEW: usize = 10;
+
+/// Runs the reader of questions on a text; the tally gets one check, and another if a small question's sheet is printed
+/// as it should be: the same variables are open in it, and the truth is the same under every setting of them.
+pub fn question(tally: &mut Tally, run: u64, path: &str, text: &[u8], pieces: usize) {
+    let (printed, expected) = (program::printed(path, text, pieces), question::printed(text));
+    prints(tally, run, text, &printed, &expected);
+    let small = question::read(text).filter(|question| question.occurring().len() <= FEW);
+    if let (Some(question), Ok(frames), true) = (small, question::sheet(text), printed == Ok(expected)) {
+        tally.check(run, says_the_same(&question, &frames.concat()), || {
+            format!("another truth, or other open variables: {frames:02X?}\n  for {}", shown(text))
+        });
+    }
+}
+
+fn says_the_same(question: &Question, sheet: &[u8]) -> bool {
+    let Ok(sheet) = sheet::check(sheet) else {
+        return false;
+    };
+    let truth = Truth::of(&sheet);
+    let agrees = |setting: u32| truth.ask(sheet.open, setting).is_some() == question.holds(setting);
+    sheet.open == question.open() && settings(sheet.open).all(agrees)
+}
+
+/// The evaluator's own check: it reads the question that was written, or finds the text broken as it is.
+pub fn question_reading(tally: &mut Tally, run: u64, text: &[u8], written: Option<&Question>) {
+    let holds = question::read(text).as_ref() == written;
+    tally.check(run, holds, || format!("the evaluator reads something else than was written\n  from {}", shown(text)));
+}
+
+/// The evaluator's own check of a text whose sheet is not too large: it finds the matrix of a small question always true
+/// or always false exactly if every setting says so.
+pub fn question_matrix(tally: &mut Tally, run: u64, text: &[u8], question: &Question) {
+    let variables = question.occurring();
+    let found = question::sheet(text).err();
+    if variables.len() > FEW || matches!(found, Some(Cause::Text | Cause::Variables | Cause::Frames)) {
+        return;
+    }
+    let mask = variables.iter().fold(0, |mask, variable| mask | 1 << (variable - 1));
+    let truths: Vec<bool> = settings(mask).map(|setting| question.matrix_holds(setting)).collect();
+    let expected = match (truths.contains(&true), truths.contains(&false)) {
+        (true, true) => None,
+        (true, false) => Some(Cause::AlwaysTrue),
+        _ => Some(Cause::AlwaysFalse),
+    };
+    tally.check(run, found == expected, || {
+        format!("the evaluator finds {found:?} and not {expected:?}\n  in {}", shown(text))
+    });
 }
 
 /// A text's length and start.

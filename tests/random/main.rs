@@ -1,5 +1,5 @@
-//! Runs the archive and the program against an evaluator written from the rules. Arguments: PROGRAM [SEED [COUNT]].
-//! Prints the first failures of each group and one closing line.
+//! Runs the archive and the two programs against an evaluator written from the rules. Arguments: INTERLOCK QDIMACS
+//! [SEED [COUNT]], the programs first. Prints the first failures of each group and one closing line.
 
 mod archive;
 mod compare;
@@ -23,12 +23,13 @@ const COUNT: u64 = 20_000;
 const THREADS: u64 = 2;
 /// All of a thread's stack, this program's own part included: what the header says that a call needs at most.
 const STACK: usize = 512 * 1024;
-/// From so many random runs on, every refusal, verdict and style of a text, and desks other than 0, must have come up.
+/// From so many random runs on, every refusal, verdict, style of a text and end of a question, and desks other than 0,
+/// must have come up.
 const ENOUGH: u64 = 5_000;
 
 fn main() -> ExitCode {
     let Some(options) = options() else {
-        println!("usage: PROGRAM [SEED [COUNT]], two numbers below two to the 64th");
+        println!("usage: INTERLOCK QDIMACS [SEED [COUNT]], two programs and two numbers below two to the 64th");
         return ExitCode::from(2);
     };
     let mut total = Tally::default();
@@ -48,10 +49,10 @@ fn main() -> ExitCode {
 
 fn options() -> Option<Options> {
     let mut arguments = std::env::args().skip(1);
-    let program = arguments.next()?;
+    let (program, qdimacs) = (arguments.next()?, arguments.next()?);
     let mut number = |otherwise| arguments.next().map_or(Some(otherwise), |word| word.parse().ok());
     let (seed, count) = (number(SEED)?, number(COUNT)?);
-    arguments.next().is_none().then_some(Options { seed, count, program })
+    arguments.next().is_none().then_some(Options { seed, count, program, qdimacs })
 }
 
 /// The group's runs, shared out between threads. A thread that panics is a failure.

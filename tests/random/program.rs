@@ -1,11 +1,11 @@
-//! Runs of the program on a text.
+//! Runs of a program on a text.
 
 use std::io::{ErrorKind, Read, Write};
 use std::process::{Child, Command, ExitStatus, Stdio};
 use std::thread;
 use std::time::{Duration, Instant};
 
-/// A text of 16 KiB takes well under a second; a program that waits for ever is a failure, not a hang.
+/// A text takes well under a second; a program that waits for ever is a failure, not a hang.
 const LONGEST: Duration = Duration::from_secs(60);
 
 /// What the program printed; an error if it could not be run, failed, or wrote to standard error. The text is written in
@@ -34,7 +34,7 @@ pub fn printed(program: &str, text: &[u8], pieces: usize) -> Result<Vec<u8>, Str
     Ok(printed)
 }
 
-/// A program that has read its 16 KiB may close the pipe before all is written.
+/// A program that has read as much as it takes may close the pipe before all is written.
 fn write(child: &mut Child, text: &[u8], pieces: usize) -> std::io::Result<()> {
     let mut stdin = child.stdin.take().unwrap();
     let piece = text.len().div_ceil(pieces).max(1);

@@ -1,5 +1,6 @@
 //! The count of checks, the first failures in words, and what the runs met.
 
+use crate::evaluator::question::{self, Cause};
 use crate::evaluator::{sheet::Refusal, text};
 
 /// Reports beyond these are counted only.
@@ -46,7 +47,7 @@ impl Tally {
 const REFUSALS: [u8; 17] = [2, 3, 4, 5, 6, 7, 8, 9, 10, 11, 12, 13, 14, 15, 16, 17, 24];
 
 /// How often each refusal, each kind of question with each verdict, and entries of desks other than 0 came up in the
-/// expected answers, and random texts of each case and ending.
+/// expected answers, random texts of each case and ending, and random questions of each end.
 #[derive(Default)]
 pub struct Met {
     /// In the order of the numbers' list.
@@ -57,7 +58,19 @@ pub struct Met {
     questions: [u64; 8],
     /// Texts with no letter, capitals, lower case, both; with no ending, 0A, 0D 0A, both. Each refused and accepted.
     texts: [[u64; 2]; 8],
+    /// Texts of questions, in the order of their ends' list.
+    ends: [u64; ENDS.len()],
 }
+
+/// How the text of a question ends, and its name.
+const ENDS: [(Option<Cause>, &str); 6] = [
+    (None, "a question taken"),
+    (Some(Cause::Text), "a question refused by 18 for its text"),
+    (Some(Cause::Variables), "a question refused by 19 for its variables"),
+    (Some(Cause::Frames), "a question refused by 19 for its frames"),
+    (Some(Cause::AlwaysTrue), "a question refused by 18 as always true"),
+    (Some(Cause::AlwaysFalse), "a question refused by 18 as always false"),
+];
 
 impl Met {
     pub fn note(&mut self, script: &[u8], expected: &Result<Vec<u8>, Refusal>) {
@@ -99,6 +112,13 @@ impl Met {
         }
     }
 
+    /// Notes the text of a question.
+    pub fn note_question(&mut self, text: &[u8]) {
+        let cause = question::sheet(text).err();
+        let place = ENDS.iter().position(|(end, _)| *end == cause).expect("a listed end");
+        self.ends[place] += 1;
+    }
+
     fn add(&mut self, other: &Met) {
         for (count, more) in self.refusals.iter_mut().zip(other.refusals) {
             *count += more;
@@ -107,6 +127,9 @@ impl Met {
             *count += more;
         }
         for (count, more) in self.questions.iter_mut().zip(other.questions) {
+            *count += more;
+        }
+        for (count, more) in self.ends.iter_mut().zip(other.ends) {
             *count += more;
         }
         for (count, more) in self.texts.iter_mut().flatten().zip(other.texts.iter().flatten()) {
@@ -141,6 +164,11 @@ impl Met {
                 if count < least && !name.is_empty() {
                     lacks.push(format!("a text of {name} {outcome} {count} times"));
                 }
+            }
+        }
+        for ((_, name), &count) in ENDS.iter().zip(&self.ends) {
+            if count < least {
+                lacks.push(format!("{name} {count} times"));
             }
         }
         lacks

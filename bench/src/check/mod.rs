@@ -4,11 +4,13 @@ mod qdimacs;
 mod smtlib;
 
 use crate::builder::Builder;
+use crate::evaluator::question::{self, Question};
 use crate::evaluator::sheet::{check as checked, MOST_SHEET_FRAMES};
 use crate::evaluator::truth::Truth;
 use crate::families::scale::SWEEPS;
 use crate::families::{FAMILIES, SHEETS};
 use crate::generate::sheets::{sheet, MIDDLE, SMALL};
+use crate::generate::{question_texts, questions};
 use crate::rng::Rng;
 use std::collections::HashSet;
 use std::process::ExitCode;
@@ -82,6 +84,24 @@ pub fn random_sheet(seed: u64, index: u64) -> Vec<u8> {
     } else {
         pinned(&mut rng, &bytes)
     }
+}
+
+/// A random question that has a sheet: one in two with nothing open, and of each of these one in two with a yes.
+pub fn random_question(seed: u64, index: u64) -> Question {
+    let mut rng = Rng::new(seed, 2, index);
+    let size = if index % 8 < 2 { questions::SMALL } else { questions::MIDDLE };
+    loop {
+        let question = questions::question(&mut rng, size);
+        let fits = (question.open() == 0) == (index % 2 == 0) && question_verdict(&question) == (index / 2 % 2 == 0);
+        if fits && question::sheet(&question_texts::plain(&question)).is_ok() {
+            return question;
+        }
+    }
+}
+
+/// Whether the question holds under some setting of its open variables.
+pub fn question_verdict(question: &Question) -> bool {
+    question::settings(question.open()).any(|setting| question.holds(setting))
 }
 
 /// The sheet under one random setting of its open variables: its last frame and a literal of each of them. A single setting shows

@@ -19,7 +19,7 @@ use Rattle.text.specs.Grammar.{TextOf}
 use Rattle.text.specs.RoundTrip.{round-trip}
 use Rattle.text.specs.Prefix.{decisive, reading-prefix}
 use Rattle.text.specs.Answer.{answerSize, answerLineSize, answerLine}
-use Rattle.text.specs.AnswerLaws.{line-at, line-length}
+use Rattle.text.specs.AnswerLaws.{line-at, answer-length}
 use Rattle.response.specs.Printed.{allLines, refusalOf, linesBy, printedRun, printedFor, printed, Prints, Starts}
 use Rattle.response.specs.PrintedLaws.{all-length, starts, lines-refused, lines-answered, printed-refused, printed-read, room-fits}
 
@@ -42,7 +42,7 @@ run-most sheet script =
     by-bool (eqb (r .number) 0)
     (λ t. let e : r .number ≡ 0 = omega tests in
     omega (arith, ap length (lines-answered r (answers (book sheet) script) e), all-length (answers (book sheet) script), length-answers (book sheet) script, number-proper sheet script _ e .few))
-    (λ f. omega (arith, ap length (lines-refused r (answers (book sheet) script) (omega tests)), line-length (r .number) (r .place) 0))
+    (λ f. omega (arith, ap length (lines-refused r (answers (book sheet) script) (omega tests)), answer-length (r .number) (r .place) 0))
 
 -- 13,000 bytes always suffice: 1,000 lines of 13.
 pub printed-most : (text : List ℕ) → length (printed text) ≤ 13000
@@ -51,7 +51,7 @@ printed-most text =
     let k = reading text in
     by-bool (eqb (k .refusal) 0)
     (λ t. omega (arith, ap length (printed-read k (omega tests)), run-most (k .sheet) (k .script)))
-    (λ f. omega (arith, ap length (printed-refused k (omega tests)), line-length (k .refusal) 0 0))
+    (λ f. omega (arith, ap length (printed-refused k (omega tests)), answer-length (k .refusal) 0 0))
 
 -- A buffer of that length starts with all of it.
 pub prints-whole : (text : List ℕ) {out out′ : List ℕ} {r : ℕ} → 13000 ≤ length out → Prints (printed text) out r out′ → Starts (printed text) out′ r

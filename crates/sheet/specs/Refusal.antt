@@ -64,6 +64,14 @@ nothingEntered = 16
 abbrev pub noEntryThere : ℕ
 noEntryThere = 17
 
+-- a question's text breaks the QDIMACS standard, or its matrix is always true or always false
+abbrev pub questionBroken : ℕ
+questionBroken = 18
+
+-- a question has more variables or more frames than a sheet can have
+abbrev pub questionTooLarge : ℕ
+questionTooLarge = 19
+
 -- ENTER: the desk is above 7
 abbrev pub enterDesk : ℕ
 enterDesk = 24

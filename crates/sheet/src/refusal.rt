@@ -33,4 +33,8 @@ pub const NOTHING_ENTERED: u8 = 16;
 
 pub const NO_ENTRY_THERE: u8 = 17;
 
+pub const QUESTION_BROKEN: u8 = 18;
+
+pub const QUESTION_TOO_LARGE: u8 = 19;
+
 pub const ENTER_DESK: u8 = 24;

@@ -22,12 +22,22 @@ answerLineSize = 13
 abbrev pub answerLines : ℕ → List ℕ → List ℕ
 answerLines n l = hexLines answerSize n l
 
--- how many whole answers there are, and lines there is room for
-abbrev pub answersWithRoom : List ℕ → List ℕ → ℕ
-answersWithRoom answers out = min (length answers / answerSize) (length out / answerLineSize)
+-- how many whole records of w bytes there are, and lines there is room for
+abbrev pub withRoom : ℕ → ℕ → List ℕ → List ℕ → ℕ
+withRoom w line records out = min (length records / w) (length out / line)
 
--- what writing the answers leaves: the count of bytes r, and the buffer, that was out before
-pub record Wrote (answers out : List ℕ) (r : ℕ) (out′ : List ℕ) : Type 0 where
-  pub count : r ≡ answerLineSize * answersWithRoom answers out
-  pub bytes : out′ ≡ writtenOver (answerLines (answersWithRoom answers out) answers) out
+abbrev pub answersWithRoom : List ℕ → List ℕ → ℕ
+answersWithRoom answers out = withRoom answerSize answerLineSize answers out
+
+-- what writing the lines of records leaves: the count of bytes r, and the buffer, that was out before
+pub record WroteLines (w line : ℕ) (records out : List ℕ) (r : ℕ) (out′ : List ℕ) : Type 0 where
+  pub count : r ≡ line * withRoom w line records out
+  pub bytes : out′ ≡ writtenOver (hexLines w (withRoom w line records out) records) out
   pub fits : r ≤ length out
+
+abbrev pub Wrote : List ℕ → List ℕ → ℕ → List ℕ → Type 0
+Wrote = WroteLines answerSize answerLineSize
+
+-- a frame has four bytes, and its line nine
+abbrev pub WroteFrames : List ℕ → List ℕ → ℕ → List ℕ → Type 0
+WroteFrames = WroteLines 4 9

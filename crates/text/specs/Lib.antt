@@ -1,11 +1,11 @@
 pub mod Hex
 pub mod HexLaws
 pub mod Line
-pub mod Stores
 pub mod LineLaws
 pub mod Reading
 pub mod ReadingLaws
 pub mod Answer
+pub mod LineStores
 pub mod AnswerLaws
 pub mod Grammar
 pub mod RoundTrip

@@ -11,7 +11,7 @@ use lib.ListN.{length, getD, set, drop, length-append, length-drop, List·getD-e
 use lib.Seq.{sets, getD-drop, drop-drop}
 use borrow.Author.Tests.{ltb-true, ltb-false, lt-ltb, le-ltb, ne-eqb}
 use Rattle.words.specs.Logic.{by-bool, and-both}
-use Rattle.text.specs.Stores.{sets-append}
+use Rattle.words.specs.Stores.{sets-append}
 use Rattle.text.specs.Hex.{digitValue, lineFeed, carriageReturn}
 use Rattle.text.specs.Line.{head, ending, digits, lineDigits, frameBytes, lineSize, byteHere, bytes, TwoDigits, Lines, noLines, lineThen, lines}
 

@@ -12,7 +12,7 @@ use Rattle.words.specs.Logic.{by-bool}
 use Rattle.text.specs.Line.{Lines, lines, ending, frameBytes, LinesAt}
 use Rattle.text.specs.LineLaws.{lines-count, frames-length}
 use Rattle.text.specs.Reading.{sheetFrames, scriptFrames, malformed, longSheet, longScript, noRoom, refused, accepted, readScript, reading, readInto, Parts, Scanned, Read}
-use Rattle.text.specs.Stores.{sets-start}
+use Rattle.words.specs.Stores.{sets-start}
 use Rattle.text.specs.declared.line.Counted.{Counted}
 use Rattle.text.specs.declared.Parsed.{Parsed}
 use Rattle.text.specs.declared.layout.Layout.{Layout}

@@ -9,8 +9,10 @@ use crate::hex::digit_value;
 use crate::line::byte_at;
 use crate::line::line_size;
 
-// The bytes of a frame.
+// The bytes of a frame, and of its line.
 pub const BYTES: usize = 4;
+
+pub const LINE_BYTES: usize = 9;
 
 // The byte that two digits give.
 fn byte(text: &[u8], at: usize) -> u8

@@ -9,7 +9,7 @@ use layout::Layout;
 use sheet::refusal;
 ghost use mathlib.Core.Path.{_≡_};
 ghost use Rattle.text.specs.Reading.{Read};
-ghost use Rattle.text.specs.Answer.{Wrote};
+ghost use Rattle.text.specs.Answer.{Wrote, WroteFrames};
 
 // What reading a text gives: a refusal's number or 0, and how many bytes of a sheet and of a script it wrote, 0 if refused.
 pub struct Parsed {
@@ -67,6 +67,15 @@ pub fn read(text: &[u8], sheet: &mut [u8], script: &mut [u8]) -> Parsed
     }
 }
 
+// Writes the lines of as many frames as are whole and have room, and says how many bytes that are.
+pub fn frame_lines(frames: &[u8], out: &mut [u8]) -> usize
+    ensures { λ r. ⌜ WroteFrames (now (frames .entry)) (now (out .entry)) r (now (out .exit)) ⌝ }
+{
+    let n = answer::lesser(frames.len() / frame::BYTES, out.len() / frame::LINE_BYTES);
+    hex::put_lines(frames, frame::BYTES, n, out);
+    n * frame::LINE_BYTES
+}
+
 // Writes the lines of as many answers as are whole and have room, and says how many bytes that are.
 pub fn answer_lines(answers: &[u8], out: &mut [u8]) -> usize
     ensures { λ r. ⌜ Wrote (now (answers .entry)) (now (out .entry)) r (now (out .exit)) ⌝ }
@@ -75,6 +84,6 @@ pub fn answer_lines(answers: &[u8], out: &mut [u8]) -> usize
         answers.len() / answer::BYTES,
         out.len() / answer::LINE_BYTES,
     );
-    answer::put_lines(answers, n, out);
+    hex::put_lines(answers, answer::BYTES, n, out);
     n * answer::LINE_BYTES
 }

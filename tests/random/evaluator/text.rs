@@ -8,14 +8,14 @@ use super::ANSWER;
 pub fn printed(text: &[u8]) -> Vec<u8> {
     let outcome = read(text).and_then(|(sheet, script)| super::run(&sheet, &script, usize::MAX));
     match outcome {
-        Ok(answers) => answers.chunks_exact(ANSWER).flat_map(answer_line).collect(),
-        Err(refusal) => answer_line(&[refusal.number, refusal.place, 0, 0, 0, 0]),
+        Ok(answers) => answers.chunks_exact(ANSWER).flat_map(digits_line).collect(),
+        Err(refusal) => digits_line(&[refusal.number, refusal.place, 0, 0, 0, 0]),
     }
 }
 
-/// Twelve digits, in capitals, and 0A alone.
-fn answer_line(answer: &[u8]) -> Vec<u8> {
-    let digits: String = answer.iter().map(|byte| format!("{byte:02X}")).collect();
+/// Two digits a byte, in capitals, and 0A alone.
+pub fn digits_line(bytes: &[u8]) -> Vec<u8> {
+    let digits: String = bytes.iter().map(|byte| format!("{byte:02X}")).collect();
     format!("{digits}\n").into_bytes()
 }
 

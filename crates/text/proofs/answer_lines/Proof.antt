@@ -7,7 +7,7 @@ use native.Mathlib.Nat.{min-le-left, min-le-right}
 use mathlib.Core.Path.{_≡_, _∙_}
 use lib.ListN.{length}
 use Rattle.text.specs.Answer.{answerSize, answerLineSize, answerLines}
-use Rattle.text.specs.Stores.{sets-start}
+use Rattle.words.specs.Stores.{sets-start}
 use Rattle.text.specs.AnswerLaws.{answers-length}
 use Rattle.text.proofs.answer_lines.Statement.{statement}
 use Rattle.text.proofs.answer_lines.Tie as tie
@@ -20,7 +20,7 @@ put-lines-requires c κs =
     let a = c .before .before .before .before .args in
     let x = length (a .answers .now) / answerSize in
     let y = length (a .out .now) / answerLineSize in
-    (omega (arith, c .before .lesser .ensures, min-le-left x y), omega (arith, c .before .lesser .ensures, min-le-right x y))
+    (omega arith, omega (arith, c .before .lesser .ensures, min-le-left x y), omega (arith, c .before .lesser .ensures, min-le-right x y))
 
 mul-result : tie.Need-mul-result
 mul-result c =

@@ -1,0 +1,85 @@
+-- Whether the matrix of a question is neither always true nor always false, as its codes and one question to the solver tell. Assumes nothing.
+use Prim.Native.Nat.{ℕ, _≤_, _<_}
+use native.Mathlib.Omega.{arith}
+use mathlib.Core.Bool.{Bool, true, false, _&&_}
+use mathlib.Core.List.{List}
+use mathlib.Core.Path.{_≡_, sym, ap, subst, _∙_}
+use lib.Dec.{ltb}
+use lib.ListN.{length}
+use Rattle.words.specs.Logic.{clash}
+use Rattle.words.specs.Word.{bit, bit-none, ext}
+use Rattle.words.specs.Mask.{none-sub}
+use Rattle.formula.specs.Assignment.{Assignment}
+use Rattle.formula.specs.Formula.{truth}
+use Rattle.formula.specs.Ask.{freeMask, bit-free, ask, ask-some, ask-never, Entries}
+use Rattle.sheet.specs.Frames.{kind}
+use Rattle.sheet.specs.Accepted.{ordered-bounded}
+use Rattle.solver.specs.Contract.{last, root, Ready, Same}
+use Rattle.solver.specs.JudgeLaws.{tables-none}
+use Rattle.prenex.specs.Question.{Clause, matrixTruth, occurs, Contingent}
+use Rattle.prenex.specs.Kinds.{matrixKinds, sheetBytes}
+use Rattle.prenex.specs.Code.{Codes, clausesOf, allOpposed}
+use Rattle.prenex.specs.Opposed.{opposed-true, unopposed-false}
+use Rattle.prenex.specs.QuestionLaws.{ClausesBelow, SheetOfMatrix, matrix-sheet}
+
+-- codes of clauses that have variables below 32, and the frames of them
+pub record Matrix (codes frames : List ℕ) : Type 0 where
+  pub codes-are : Codes codes
+  pub some-clause : 1 ≤ length (clausesOf codes)
+  pub below : ClausesBelow (clausesOf codes)
+  pub frames-are : frames ≡ sheetBytes (matrixKinds (clausesOf codes))
+  pub few : length (matrixKinds (clausesOf codes)) ≤ 200
+
+-- what is told of clauses
+pub record Judged (cs : List Clause) (r : Bool) : Type 0 where
+  pub is-contingent : r ≡ true → Contingent cs
+  pub is-settled : r ≡ false → Contingent cs → ⊥
+
+-- always true
+pub judged-true : {cs : List Clause} {r : Bool} → allOpposed cs ≡ true → r ≡ false → Judged cs r
+judged-true {cs} {r} e f = record {
+  is-contingent = λ t. clash r t f;
+  is-settled = λ t c. clash (matrixTruth cs (c .makes-false .0)) (opposed-true cs e (c .makes-false .0)) (c .makes-false .1);
+}
+
+module _ {codes frames : List ℕ} (m : Matrix codes frames) where
+  abbrev clauses : List Clause
+  clauses = clausesOf codes
+
+  of-sheet : SheetOfMatrix clauses
+  of-sheet = matrix-sheet clauses (m .some-clause) (m .below) (m .few)
+
+  entries : Entries 32 (root (sheetBytes (matrixKinds clauses))) 0 0
+  entries = record {
+    bounded = ordered-bounded 32 (kind (sheetBytes (matrixKinds clauses))) (of-sheet .ordered) (last (sheetBytes (matrixKinds clauses)));
+    opened = none-sub (freeMask 32 (root (sheetBytes (matrixKinds clauses))));
+    valued = none-sub 0;
+  }
+
+  -- the solver can be asked: nothing is entered, and there is no record
+  pub matrix-ready : {all : ℕ} (under over : List ℕ) → bit all ≡ occurs clauses → Ready frames all 0 0 under 0 over 0
+  matrix-ready {all} under over e =
+      subst (λ (s : List ℕ). Ready s all 0 0 under 0 over 0) (sym (m .frames-are))
+      (record {
+        ordered = of-sheet .ordered;
+        some = of-sheet .least;
+        few = of-sheet .most;
+        opens = ext all _ (λ k. ap (λ (p : ℕ → Bool). p k) e ∙ sym (of-sheet .free-is k) ∙ sym (bit-free (entries .bounded) k));
+        entered = none-sub all;
+        valued = none-sub 0;
+        tables = tables-none;
+      })
+
+  -- false under some assignment: the answer tells whether it is true under another
+  pub judged-asked : {holds : Bool} {word : ℕ} → allOpposed clauses ≡ false → Same (ask 32 (root frames) 0 0) holds word → Judged clauses holds
+  judged-asked {holds} {word} e a =
+      let h : holds ≡ ask 32 (root (sheetBytes (matrixKinds clauses))) 0 0 .holds = a .holds ∙ ap (λ (s : List ℕ). ask 32 (root s) 0 0 .holds) (m .frames-are) in
+      record {
+        is-contingent = λ t.
+            let f = ask-some 32 (root (sheetBytes (matrixKinds clauses))) 0 0 (sym h ∙ t) in
+            record { makes-true = (f .0, sym (of-sheet .truth-is (f .0)) ∙ f .2); makes-false = unopposed-false clauses e };
+        is-settled = λ t c.
+            let σ = c .makes-true .0 in
+            clash (matrixTruth clauses σ) (c .makes-true .1)
+            (sym (of-sheet .truth-is σ) ∙ ask-never entries (sym h ∙ t) σ (λ k b. clash (bit 0 k) b (bit-none k)));
+      }
