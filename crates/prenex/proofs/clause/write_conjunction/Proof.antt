@@ -30,9 +30,10 @@ put-requires c κs =
     let l = c .before .before .before .before .loop in
     let g = l .inv in
     let a = c .before .before .before .before .before .before .before .args in
-    let m = getD-take (a .count) (a .numbers .now) (l .i) 0 (c .before .before .before .loop-test .taken) in (
+    let m = getD-take (a .count) (a .numbers .now) (l .i) 0 (c .before .before .before .loop-test .taken) in
+    let b = g .members .bound (l .i) in (
       omega (arith, g .wide, c .before .before .before .before .before .before .before .pre .3),
-      λ h. (omega (arith, g .near), omega (arith, g .members .bound (l .i), m, g .frames-some), omega arith),
+      λ h. (omega (arith, g .near, b, m, g .frames-some), omega (arith, g .near, b, m, g .frames-some), omega arith),
     )
 
 add-to : tie.Need-add-to Inv-loop μ-loop
