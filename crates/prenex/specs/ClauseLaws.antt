@@ -7,7 +7,7 @@ use mathlib.Core.Bool.{Bool, true, false, cond}
 use mathlib.Core.List.{List, [], _∷_, map}
 use mathlib.Core.Path.{_≡_, refl, sym, ap, _∙_}
 use lib.Dec.{eqb}
-use lib.ListN.{length, getD, drop, set, length-append, length-drop, length-map, length-set, drop-of-length-le}
+use lib.ListN.{length, getD, drop, set, length-drop, length-map, length-set, drop-of-length-le}
 use lib.Seq.{sets, length-sets, drop-cons}
 use borrow.Author.Tests.{ne-eqb}
 use Rattle.words.specs.Logic.{by-bool, clash}
@@ -20,6 +20,7 @@ use Rattle.prenex.specs.Kinds.{count, chain, chainEnd, frameBy, clauseKi
 use Rattle.prenex.specs.Code.{literalOf, toFirst, clausesOf, kindsWithin, endsWithin}
 use Rattle.prenex.specs.Writing.{Linked, Members, Clauses}
 use Rattle.prenex.specs.StoreLaws.{store-frame, sheet-none}
+use Rattle.prenex.specs.MatrixLaws.{clauses-length}
 use Rattle.prenex.specs.LiteralLaws.{variable-below}
 
 -- ---- a count is at most how many there are
@@ -299,18 +300,6 @@ unfolding chainEnd
 chain-near a [] n h = omega arith
 chain-near a (b ∷ bs) n h = omega (arith, chain-near n bs (suc n) (omega arith))
 
-chain-length : (K : ℕ → ℕ → Kind) (a : ℕ) (bs : List ℕ) (n : ℕ) → length (chain K a bs n) ≡ length bs
-unfolding chain
-chain-length K a [] n = refl
-chain-length K a (b ∷ bs) n = ap suc (chain-length K n bs (suc n))
-
-clause-length : (f : Literal → ℕ) (l : Literal) (ls : Clause) (cs : List Clause) (n : ℕ)
-    → length (clauseKinds f ((l ∷ ls) ∷ cs) n) ≡ length ls + length (clauseKinds f cs (n + length ls))
-unfolding clauseKinds
-clause-length f l ls cs n =
-    length-append (chain Or (f l) (map f ls) n) (clauseKinds f cs (n + length ls))
-    ∙ rw (chain-length Or (f l) (map f ls) n, length-map ls f)
-
 abbrev pub Short : (Literal → ℕ) → Clause → Type 0
 Short f = Every (λ (k : Literal). f k ≤ 64)
 
@@ -320,7 +309,7 @@ unfolding clauseKinds clauseEnds
 ends-near f [] w n = record { bound = λ i. omega arith }
 ends-near f ([] ∷ cs) (every-one b w) n = ends-near f cs w n
 ends-near f ((l ∷ ls) ∷ cs) (every-one (every-one h b) w) n =
-    let e : n + length (clauseKinds f ((l ∷ ls) ∷ cs) n) ≡ n + length ls + length (clauseKinds f cs (n + length ls)) = omega (arith, clause-length f l ls cs n) in
+    let e : n + length (clauseKinds f ((l ∷ ls) ∷ cs) n) ≡ n + length ls + length (clauseKinds f cs (n + length ls)) = omega (arith, clauses-length f l ls cs n) in
     rw e (members-one _ _ _ (omega (arith, chain-near (f l) (map f ls) n (omega arith), length-map ls f)) (ends-near f cs w (n + length ls)))
 
 every-more : {A : Type 0} {P Q : A → Type 0} → ((a : A) → P a → Q a) → {l : List A} → Every P l → Every Q l

@@ -102,7 +102,7 @@ pub words-length : {ms : List ℕ} {bs : List Block} → Words ms bs → length 
 words-length words-none = refl
 words-length (words-one e w) = ap suc (words-length w)
 
-alternating-inside : {b : Block} {bs : List Block} → Alternating (b ∷ bs) → Alternating bs
+pub alternating-inside : {b : Block} {bs : List Block} → Alternating (b ∷ bs) → Alternating bs
 alternating-inside (innermost e) = no-block
 alternating-inside (outer e a) = a
 

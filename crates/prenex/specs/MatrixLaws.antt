@@ -90,7 +90,7 @@ below-map f (every-one w ws) = every-one w (below-map f ws)
 clause-length : (f : Literal → ℕ) (l : Literal) (ls : Clause) (n : ℕ) → length (chain Or (f l) (map f ls) n) ≡ length ls
 clause-length f l ls n = chain-length Or (f l) (map f ls) n ∙ length-map ls f
 
-clauses-length : (f : Literal → ℕ) (l : Literal) (ls : Clause) (cs : List Clause) (n : ℕ)
+pub clauses-length : (f : Literal → ℕ) (l : Literal) (ls : Clause) (cs : List Clause) (n : ℕ)
     → length (clauseKinds f ((l ∷ ls) ∷ cs) n) ≡ length ls + length (clauseKinds f cs (n + length ls))
 unfolding clauseKinds
 clauses-length f l ls cs n =

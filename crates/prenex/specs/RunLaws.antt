@@ -126,3 +126,33 @@ ascending-apart r {rs} a k w =
     by-bool (inRuns rs k)
     (λ t. absurd (omega (arith, within-bounds (r .first) (r .size) k w .1, ascending-start a k t)))
     (λ t. t)
+
+-- ---- longest runs: between two of them a variable is left out, so that, having exactly the predicate's variables, none can be longer
+
+pub data Spaced : ℕ → List Run → Type 0 where
+  none-spaced : {x : ℕ} → Spaced x []
+  next-spaced : {x : ℕ} (r : Run) {rs : List Run} → x ≤ r .first → Spaced (suc (r .first + r .size)) rs → Spaced x (r ∷ rs)
+
+spaced-from : {x : ℕ} {rs : List Run} (y : ℕ) → y ≤ x → Spaced x rs → Spaced y rs
+spaced-from y h none-spaced = none-spaced
+spaced-from y h (next-spaced r i s) = next-spaced r (le-trans h i) s
+
+ended-spaced : (x c : ℕ) {rs : List Run} → c ≤ x → Spaced (suc x) rs → Spaced (x - c) (ended x c ++ rs)
+ended-spaced x c h s =
+    let start : x - c ≤ x - c = omega arith in
+    let next : suc (x - c + c) ≤ suc x = omega arith in
+    by-bool (eqb c 0)
+    (λ e. rw e (spaced-from (x - c) (omega arith) s))
+    (λ e. rw e (next-spaced (record { first = x - c; size = c }) start (spaced-from (suc (x - c + c)) next s)))
+
+runs-from-spaced : (p : ℕ → Bool) (x c n : ℕ) → c ≤ x → Spaced (x - c) (runsFrom p x c n)
+unfolding runsFrom
+runs-from-spaced p x c zero h = rw (← append-nil (ended x c)) (ended-spaced x c h none-spaced)
+runs-from-spaced p x c (suc n) h =
+    by-bool (p x)
+    (λ e. rw e (spaced-from (x - c) (omega arith) (runs-from-spaced p (suc x) (suc c) n (omega arith))))
+    (λ e. rw e (ended-spaced x c h (spaced-from (suc x) (omega arith) (runs-from-spaced p (suc x) zero n (omega arith)))))
+
+pub runs-spaced : (p : ℕ → Bool) → Spaced 0 (runs p)
+unfolding runs
+runs-spaced p = runs-from-spaced p zero zero variables (omega arith)

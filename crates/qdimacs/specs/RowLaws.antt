@@ -16,18 +16,11 @@ use Rattle.prenex.specs.PrefixLaws.{member-append}
 use Rattle.prenex.specs.CodeLaws.{Words, words-none, words-one}
 use Rattle.qdimacs.specs.Page.{atomFields, literalField, clauseFields, clausesFields, blockField, blocksFields, page}
 use Rattle.qdimacs.specs.Shape.{numberOf, variableOf, markOf, inRange}
+use Rattle.qdimacs.specs.ShapeLaws.{literal-variable, literal-mark}
 use Rattle.qdimacs.specs.Row.{header, blockRow, clauseRow, rowAfter, mentions, properAtoms, codeOfField, codesFrom, withAtom, wordsFrom}
 use Rattle.qdimacs.specs.declared.token.Token.{Token}
 
 -- ---- a literal's field, and the field that begins a block
-
-literal-mark : (l : Literal) → markOf (literalField l) ≡ 0
-unfolding markOf literalField
-literal-mark l = by-bool (l .negative) (λ e. rw e) (λ e. rw e)
-
-literal-variable : (l : Literal) → variableOf (literalField l) ≡ suc (l .variable)
-unfolding variableOf literalField
-literal-variable l = by-bool (l .negative) (λ e. rw e) (λ e. rw e)
 
 block-row : (row : ℕ) (d : Bool) → rowAfter row (blockField d) ≡ blockRow
 unfolding rowAfter markOf blockField

@@ -9,6 +9,7 @@ use lib.ListN.{length}
 use borrow.Author.Tests.{lt-ltb, le-leb, ltb-true, leb-true, eqb-true, ne-eqb}
 use Rattle.words.specs.Logic.{by-bool, clash, and-both, and-intro, tests}
 use Rattle.prenex.specs.Question.{Literal, Block, Clause, Question, Every, every-none, every-one, SomeBelow, Alternating, no-block, innermost, outer, Proper}
+use Rattle.prenex.specs.CodeLaws.{alternating-inside}
 use Rattle.qdimacs.specs.Page.{atomFields, literalField, clauseFields, clausesFields, blockField, blocksFields, page}
 use Rattle.qdimacs.specs.Shape.{numberOf, variableOf, isZero, markOf, inRange, broken, blockStart, clauseStart, rowStart, stepIn, step, run, start, finished, whole}
 use Rattle.qdimacs.specs.declared.token.Token.{Token}
@@ -64,10 +65,6 @@ alternating-follows (outer {b} {c} {bs} e a) = one-follows (other (c .exists) (b
     other : (y x : Bool) → x ≡ not y → eqb (cond x 1 2) (cond y 1 2) ≡ false
     other true x e = rw e refl
     other false x e = rw e refl
-
-alternating-rest : {b : Block} {bs : List Block} → Alternating (b ∷ bs) → Alternating bs
-alternating-rest (innermost e) = no-block
-alternating-rest (outer e a) = a
 
 -- before the first block
 follows-none : {bs : List Block} → Alternating bs → Follows 0 bs
@@ -159,7 +156,7 @@ in-range v n e =
 range-in : (v n : ℕ) → n < v → inRange v (suc n) ≡ true
 range-in v n h = and-intro (ltb 0 (suc n)) (leb (suc n) v) (lt-ltb 0 (suc n) (omega arith)) (le-leb (suc n) v h)
 
-literal-variable : (l : Literal) → variableOf (literalField l) ≡ suc (l .variable)
+pub literal-variable : (l : Literal) → variableOf (literalField l) ≡ suc (l .variable)
 unfolding variableOf literalField
 literal-variable l = by-bool (l .negative) (λ e. rw e refl) (λ e. rw e refl)
 
@@ -170,7 +167,7 @@ literal-some : (l : Literal) → isZero (literalField l) ≡ false
 unfolding isZero literalField
 literal-some l = by-bool (l .negative) (λ e. rw e refl) (λ e. rw e (some-number (suc (l .variable)) (omega arith)))
 
-literal-mark : (l : Literal) → markOf (literalField l) ≡ 0
+pub literal-mark : (l : Literal) → markOf (literalField l) ≡ 0
 unfolding markOf literalField
 literal-mark l = by-bool (l .negative) (λ e. rw e refl) (λ e. rw e refl)
 
@@ -264,7 +261,7 @@ module _ (v : ℕ) where
   blocks-run n d [] cs (none-follows f) a every-none h e k = (d, matrix-run n d cs f h e k)
   blocks-run n d (b ∷ bs) cs (one-follows f) a (every-one i is) h e k =
       let rest = blocksFields bs (clausesFields cs) in
-      let r = blocks-run n (kindOf b) bs cs (alternating-follows a) (alternating-rest a) is h e k in (
+      let r = blocks-run n (kindOf b) bs cs (alternating-follows a) (alternating-inside a) is h e k in (
         r .0,
         ap (λ (s : State). run s (atomFields (b .atoms) rest)) (kind-starts v n d (b .exists) f)
             ∙ block-run v n (kindOf b) (b .atoms) rest (i .some) (i .below)
