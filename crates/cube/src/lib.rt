@@ -1,4 +1,8 @@
-// A cube: the variables that are fixed, and their values.
+// A cube: the variables that are fixed, and their values. `Cube` is document 01's, of 32 variables, as records hold it; `Cube64` has 64, as the search and a
+// session use it.
+mod wide;
+
+pub use wide::Cube64;
 ghost use mathlib.Core.Path.{_≡_};
 ghost use mathlib.Core.Bool.{true};
 ghost use Rattle.words.specs.Mask.{agree};

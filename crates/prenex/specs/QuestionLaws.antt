@@ -122,6 +122,7 @@ pub record SheetOfMatrix (cs : List Clause) : Type 0 where
   pub ordered : Ordered variables (kind (sheetBytes (matrixKinds cs)))
   pub least : 0 < frames (sheetBytes (matrixKinds cs))
   pub most : frames (sheetBytes (matrixKinds cs)) ≤ 200
+  pub unbound : (k v : ℕ) → k < frames (sheetBytes (matrixKinds cs)) → binds (kind (sheetBytes (matrixKinds cs)) k) v ≡ false
   pub truth-is : (σ : Assignment) → truth (formula (sheetBytes (matrixKinds cs)) (last (sheetBytes (matrixKinds cs)))) σ ≡ matrixTruth cs σ
   pub free-is : (x : ℕ) → free (formula (sheetBytes (matrixKinds cs)) (last (sheetBytes (matrixKinds cs)))) x ≡ occurs cs x
 
@@ -149,6 +150,7 @@ matrix-sheet cs l b u =
       ordered = sheet-ordered (matrixKinds cs) (w .ordered);
       least = omega (arith, n, w .least);
       most = omega (arith, n);
+      unbound = λ k v i. w .unbound k v (rw n at i);
       truth-is = λ σ. rw n (w .truth-is σ);
       free-is = λ x. rw n (w .free-is x);
     }

@@ -13,9 +13,12 @@ use Rattle.formula.specs.Assignment.{Assignment}
 use Rattle.formula.specs.Formula.{truth}
 use Rattle.formula.specs.Ask.{freeMask, bit-free, ask, ask-some, ask-never, Entries}
 use Rattle.sheet.specs.Frames.{kind}
+use Rattle.sheet.specs.Rules.{binds}
 use Rattle.sheet.specs.Accepted.{ordered-bounded}
+use Rattle.records.specs.Both.{tables-none}
+use Rattle.net.specs.Layout.{freeOf}
+use Rattle.net.specs.Sheet.{Checked, NetOf, checked-net}
 use Rattle.solver.specs.Contract.{last, root, Ready, Same}
-use Rattle.solver.specs.JudgeLaws.{tables-none}
 use Rattle.prenex.specs.Question.{Clause, matrixTruth, occurs, Contingent}
 use Rattle.prenex.specs.Kinds.{matrixKinds, sheetBytes}
 use Rattle.prenex.specs.Code.{Codes, clausesOf, allOpposed}
@@ -42,6 +45,16 @@ judged-true {cs} {r} e f = record {
   is-settled = λ t c. clash (matrixTruth cs (c .makes-false .0)) (opposed-true cs e (c .makes-false .0)) (c .makes-false .1);
 }
 
+-- a checked sheet can be asked over its net: nothing is entered, and there is no record
+pub ready-none : {s net : List ℕ} {free : ℕ} (under over : List ℕ) → Checked s free → NetOf s net → Ready s net 0 0 under 0 over 0
+ready-none {net = net} under over k n = record {
+  checked = checked-net k n;
+  net-of = n;
+  entered = none-sub (freeOf net);
+  valued = none-sub 0;
+  tables = tables-none under over;
+}
+
 module _ {codes frames : List ℕ} (m : Matrix codes frames) where
   abbrev clauses : List Clause
   clauses = clausesOf codes
@@ -56,18 +69,17 @@ module _ {codes frames : List ℕ} (m : Matrix codes frames) where
     valued = none-sub 0;
   }
 
-  -- the solver can be asked: nothing is entered, and there is no record
-  pub matrix-ready : {all : ℕ} (under over : List ℕ) → bit all ≡ occurs clauses → Ready frames all 0 0 under 0 over 0
-  matrix-ready {all} under over e =
-      subst (λ (s : List ℕ). Ready s all 0 0 under 0 over 0) (sym (m .frames-are))
+  -- its frames make a checked sheet: none binds a variable
+  pub matrix-checked : {all : ℕ} → bit all ≡ occurs clauses → Checked frames all
+  matrix-checked {all} e =
+      subst (λ (s : List ℕ). Checked s all) (sym (m .frames-are))
       (record {
         ordered = of-sheet .ordered;
         some = of-sheet .least;
         few = of-sheet .most;
         opens = ext all _ (λ k. ap (λ (p : ℕ → Bool). p k) e ∙ sym (of-sheet .free-is k) ∙ sym (bit-free (entries .bounded) k));
-        entered = none-sub all;
-        valued = none-sub 0;
-        tables = tables-none;
+        once = λ j k v h i t u. clash (binds (kind (sheetBytes (matrixKinds clauses)) j) v) t (of-sheet .unbound j v h);
+        closed = λ k v h t. clash (binds (kind (sheetBytes (matrixKinds clauses)) k) v) t (of-sheet .unbound k v h);
       })
 
   -- false under some assignment: the answer tells whether it is true under another

@@ -12,6 +12,12 @@ use cube::Cube;
 // The mask of every variable: in a setting each has a value.
 const EVERY: u32 = 4294967295;
 
+// How many records of the under table count, and how many of the over table.
+pub struct Counts {
+    pub under: usize,
+    pub over: usize,
+}
+
 // Where a search ended: at a record's index, or nowhere.
 pub enum Found {
     At(usize),

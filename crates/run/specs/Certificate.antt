@@ -139,7 +139,7 @@ module _ (sheet script : List ℕ) (o : Call) (R : Meets sheet script o) where
     asked-promised i a = R .recorded accepted .each i (omega (arith, a .line)) .promised a
 
     pub records-promised : (i : ℕ) → Asked sheet script i → Promised-at sheet script i (record { under = o .under'; cu = o .cu; over = o .over'; co = o .co })
-    records-promised i a = rw records-left at (promised-grows script i (records-stay (i + 1) (lines script) (omega (arith, a .line)) (omega arith)) (asked-promised i a))
+    records-promised i a = rw records-left at (promised-grows sheet script i (records-stay (i + 1) (lines script) (omega (arith, a .line)) (omega arith)) (asked-promised i a))
 
     -- ---- a refused line
 

@@ -19,12 +19,13 @@ use Rattle.sheet.specs.Frames.{frames}
 use Rattle.sheet.specs.Rules.{variables}
 use Rattle.sheet.specs.Keeps.{Keeps}
 use Rattle.records.specs.Table.{room, grown-refl}
+use Rattle.records.specs.Both.{tables-same}
 use Rattle.records.specs.Put.{Put, put-next, put-full, valid-put, kept-put, stored}
 use Rattle.solver.specs.Contract.{last, root}
 use Rattle.session.specs.Model.{enteredMask, enteredValues, answerLength, ASK, lines, answerAt, answers}
 use Rattle.session.specs.Step.{searches}
 use Rattle.run.specs.Run.{refusal, book, before, kindAt, Held, asLent, Grows, Promised-at, LineRecords, History}
-use Rattle.run.specs.History.{RecordsTrue, lent-true, grows-none, history-none, history-next, history-true}
+use Rattle.run.specs.History.{RecordsTrue, lent-true, history-none, history-next, history-true}
 use Rattle.run.specs.Call.{Call, Lent, Meets}
 use Rattle.run.specs.Accept.{number-proper}
 use Rattle.run.specs.Before.{before-entered, book-entries}
@@ -135,7 +136,7 @@ module _ (sheet script : List ℕ) (K : Keeps sheet) (i : ℕ) where
     other-next e = record {
       next = h;
       line = record {
-        grows = grows-none h t;
+        grows = tables-same t;
         refused = λ r. refl;
         quiet = λ z. refl;
         promised = λ a. clash asks (and-intro isAsk isAnswered (eq-eqb _ _ (a .kind)) (eq-eqb _ _ (a .taken))) e;

@@ -3,13 +3,13 @@ use Prim.Native.Nat.{ℕ, zero, suc, _+_, _≤_, _<_}
 use native.Mathlib.Omega.{arith}
 use native.Mathlib.Numerals.{add-one}
 use mathlib.Core.Path.{_≡_, refl, sym, subst, _∙_}
-use mathlib.Core.Bool.{true, false, cond}
+use mathlib.Core.Bool.{cond}
 use mathlib.Core.List.{List}
 use lib.Dec.{eqb, leb}
 use borrow.Author.Tests.{le-leb, lt-leb}
 use Rattle.words.specs.Logic.{by-bool, tests}
-use Rattle.sheet.specs.Frames.{frames, formula}
-use Rattle.records.specs.Table.{valid-empty, grown-refl, grown-trans, kept-grown}
+use Rattle.records.specs.Table.{kept-grown}
+use Rattle.records.specs.Both.{tables-none, tables-same, tables-then}
 use Rattle.solver.specs.Contract.{Tables}
 use Rattle.run.specs.Run.{Held, asLent, Grows, Asked, Promised-at, LineRecords, History}
 
@@ -20,17 +20,11 @@ RecordsTrue sheet h = Tables sheet (h .under) (h .cu) (h .over) (h .co)
 -- ---- tables that grow
 
 pub lent-true : (sheet under over : List ℕ) → RecordsTrue sheet (asLent under over)
-lent-true sheet under over = record { under = valid-empty (formula sheet) (frames sheet) true under; over = valid-empty (formula sheet) (frames sheet) false over }
-
-pub grows-none : {sheet : List ℕ} (h : Held) → RecordsTrue sheet h → Grows sheet h h
-grows-none h t = record { tables = t; under = grown-refl (h .under) (h .cu); over = grown-refl (h .over) (h .co) }
-
-pub grows-trans : {sheet : List ℕ} {h h₁ h₂ : Held} → Grows sheet h h₁ → Grows sheet h₁ h₂ → Grows sheet h h₂
-grows-trans g k = record { tables = k .tables; under = grown-trans (g .under) (k .under); over = grown-trans (g .over) (k .over) }
+lent-true sheet under over = tables-none under over
 
 -- what was promised still stands in larger tables
-pub promised-grows : {sheet : List ℕ} (script : List ℕ) (i : ℕ) {h h' : Held} → Grows sheet h h' → Promised-at sheet script i h → Promised-at sheet script i h'
-promised-grows script i g p = (λ y. kept-grown _ _ _ (g .under) (p .0 y), λ n. kept-grown _ _ _ (g .over) (p .1 n))
+pub promised-grows : (sheet script : List ℕ) (i : ℕ) {h h' : Held} → Grows sheet h h' → Promised-at sheet script i h → Promised-at sheet script i h'
+promised-grows sheet script i g p = (λ y. kept-grown _ _ _ (g .under) (p .0 y), λ n. kept-grown _ _ _ (g .over) (p .1 n))
 
 -- ---- no line, and one line more
 
@@ -65,7 +59,7 @@ module _ {sheet script : List ℕ} {n : ℕ} {h h' : Held} (H : History sheet sc
   history-true (suc i) l = rw (add-one i) at (H .each i (omega arith) .grows .tables)
 
   pub history-grows : (i j : ℕ) → i ≤ j → j ≤ n → Grows sheet (H .records i) (H .records j)
-  history-grows i zero l m = let e : i ≡ 0 = omega arith in rw e (grows-none (H .records 0) (history-true 0 (omega arith)))
+  history-grows i zero l m = let e : i ≡ 0 = omega arith in rw e (tables-same (history-true 0 (omega arith)))
   history-grows i (suc j) l m = by-bool (eqb i (suc j))
-      (λ t. let e : i ≡ suc j = omega tests in rw e (grows-none (H .records (suc j)) (history-true (suc j) m)))
-      (λ t. grows-trans (history-grows i j (omega tests) (omega arith)) (rw (add-one j) at (H .each j (omega arith) .grows)))
+      (λ t. let e : i ≡ suc j = omega tests in rw e (tables-same (history-true (suc j) m)))
+      (λ t. tables-then (history-grows i j (omega tests) (omega arith)) (rw (add-one j) at (H .each j (omega arith) .grows)))

@@ -6,10 +6,12 @@ use mathlib.Core.List.{List, [], _++_}
 use lib.ListN.{length, drop, length-append, length-drop}
 use Rattle.sheet.specs.Cause.{Refusal, first-none}
 use Rattle.sheet.specs.Check.{Checks}
+use Rattle.net.specs.Layout.{freeOf}
+use Rattle.net.specs.Sheet.{Checked, NetOf}
 use Rattle.session.specs.declared.Session.{Session}
 use Rattle.session.specs.Model.{Answer, answerLength, answerBytes, lines, lineAt, line, answerAt, answersTo, answers}
 use Rattle.session.specs.Script.{answers-none, answers-next, length-answerBytes, length-answersTo}
-use Rattle.session.specs.Sound.{standingOf, Checked, Sound, Empty, empty-sound}
+use Rattle.session.specs.Sound.{standingOf, Sound, OnNet, Empty, empty-sound}
 use Rattle.session.specs.Step.{Tells, Untouched}
 use Rattle.run.specs.Run.{causes, book, before, Held, asLent, Grows, LineRecords, History, Run}
 use Rattle.run.specs.History.{lent-true, history-none, history-next, history-grows}
@@ -109,6 +111,26 @@ pub progress-grows : {s script : List ℕ} {free : ℕ} {ans under over : List �
 progress-grows {s} {under = under} {over = over} {i = i} g =
     rw (g .history .starts, g .history .ends) at (history-grows (g .history) (lent-true s under over) 0 i (omega arith) (omega arith))
 
+-- ---- every line in turn
+
+-- After the first i lines over the net: it is as it was at the start, and the run of each checked sheet whose net it is has come that far.
+pub record Turns (script net ans under over : List ℕ) (i : ℕ) (net' : List ℕ) (x : Session) (ans' u o : List ℕ) : Type 0 where
+  pub same : net' ≡ net
+  pub each : (s : List ℕ) → Checked s (freeOf net) → NetOf s net → Progress s script (freeOf net) ans under over i x ans' u o
+
+pub turns-none : {script net : List ℕ} {x : Session} (ans under over : List ℕ) → Empty x → Turns script net ans under over 0 net x ans under over
+turns-none ans under over e = record { same = refl; each = λ s k n. progress-none ans under over k e }
+
+pub turns-next : {script net ans under over : List ℕ} {i : ℕ} {x x' : Session} {net₁ ans₁ u o net₂ ans₂ u' o' : List ℕ}
+    → Turns script net ans under over i net₁ x ans₁ u o
+    → net₂ ≡ net₁
+    → ((s : List ℕ) → OnNet s net₁ x u o → LineRun s script (freeOf net₁) i x ans₁ u o x' ans₂ u' o')
+    → Turns script net ans under over (i + 1) net₂ x' ans₂ u' o'
+turns-next t e l = record {
+  same = e ∙ t .same;
+  each = λ s k n. let g = t .each s k n in progress-next g ((rw (t .same) at l) s (record { net-of = n; sound = g .sound }));
+}
+
 -- ---- the whole run
 
 module _ (s script ans : List ℕ) {number place free : ℕ} (c : Checks (causes s script (length ans)) s number place free) where
@@ -124,9 +146,16 @@ module _ (s script ans : List ℕ) {number place free : ℕ} (c : Checks (causes
     run-checked =
         let A = kept-accepted s (proper .sheet-kept) in
         let n = first-none (causes s script (length ans)) (causes-numbered s script (length ans)) (sym (c .number-is) ∙ e) in
-        record { ordered = A .ordered; some = A .sized .least; few = A .sized .most; opens = c .free-is ∙ rw n }
+        record {
+          ordered = A .ordered;
+          some = A .sized .least;
+          few = A .sized .most;
+          opens = c .free-is ∙ rw n;
+          once = proper .sheet-kept .once;
+          closed = proper .sheet-kept .closed;
+        }
 
-    pub run-accepted : {under over : List ℕ} {x : Session} {ans' u o : List ℕ} → Progress s script free ans under over (lines script) x ans' u o
+    pub run-accepted : {open-word : ℕ} {under over : List ℕ} {x : Session} {ans' u o : List ℕ} → Progress s script open-word ans under over (lines script) x ans' u o
         → Run s script ans under over ans' u o 0 0 (x .under) (x .over)
     unfolding answers
     run-accepted g =

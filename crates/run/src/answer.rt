@@ -7,7 +7,7 @@ ghost use Rattle.run.specs.Written.{written};
 use session::Answer;
 
 // Byte k of a word; 0 is the lowest.
-fn byte(word: u32, k: u8) -> u8
+fn byte(word: u64, k: u8) -> u8
     requires { ⌜ k < 4 ⌝ }
     ensures { λ r. ⌜ r ≡ word / 2 ^ (8 * k) % 256 ⌝ }
 {

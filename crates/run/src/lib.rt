@@ -2,13 +2,15 @@
 mod answer;
 
 ghost use mathlib.Core.Path.{_≡_};
-ghost use mathlib.Core.List.{_++_};
-ghost use Prim.Native.Nat.{_+_, _*_, _/_, _<_, _≤_};
+ghost use mathlib.Core.List.{List, _++_};
+ghost use Prim.Native.Nat.{ℕ, _+_, _*_, _/_, _<_, _≤_};
 ghost use lib.ListN.{length};
 ghost use Rattle.sheet.specs.Cause.{first};
 ghost use Rattle.sheet.specs.Check.{Checks};
 ghost use Rattle.session.specs.Model.{answerLength, lines};
-ghost use Rattle.session.specs.Sound.{Checked, Sound};
+ghost use Rattle.net.specs.Layout.{freeOf};
+ghost use Rattle.net.specs.Sheet.{Checked, NetOf};
+ghost use Rattle.session.specs.Sound.{OnNet};
 ghost use Rattle.run.specs.Run.{scriptCauses, roomCauses, causes, Run};
 ghost use Rattle.run.specs.Progress.{LineRun, Progress};
 use session::Session;
@@ -66,15 +68,15 @@ fn check(sheet: &[u8], script: &[u8], room: usize) -> sheet::Checked
 fn run_line(
     session: Session,
     i: usize,
-    sheet: &[u8],
-    free: u32,
+    net: &mut [u64],
     script: &[u8],
     answers: &mut [u8],
     under: &mut [u32],
     over: &mut [u32],
 ) -> Session
-    requires { ⌜ Sound (now sheet) free session (now under) (now over) × ((i < lines (now script)) × (i * 6 + 6 ≤ length (now answers))) ⌝ }
-    ensures { λ r. ⌜ LineRun (now (sheet .entry)) (now (script .entry)) free i session (now (answers .entry)) (now (under .entry)) (now (over .entry)) r (now (answers .exit)) (now (under .exit)) (now (over .exit)) ⌝ }
+    requires { ⌜ ((s : List ℕ) × OnNet s (now net) session (now under) (now over)) × ((i < lines (now script)) × (i * 6 + 6 ≤ length (now answers))) ⌝ }
+    ensures { λ r. ⌜ now (net .exit) ≡ now (net .entry) ⌝ }
+    ensures { λ r. ⌜ ((s : List ℕ) → OnNet s (now (net .entry)) session (now (under .entry)) (now (over .entry)) → LineRun s (now (script .entry)) (freeOf (now (net .entry))) i session (now (answers .entry)) (now (under .entry)) (now (over .entry)) r (now (answers .exit)) (now (under .exit)) (now (over .exit))) ⌝ }
 {
     let at = i * 4;
     let place = i * 6;
@@ -84,8 +86,7 @@ fn run_line(
         script[at + 1],
         script[at + 2],
         script[at + 3],
-        sheet,
-        free,
+        net,
         under,
         over,
     );
@@ -96,21 +97,20 @@ fn run_line(
 
 // Every line in turn, from no entry and no record.
 fn run_lines(
-    sheet: &[u8],
-    free: u32,
+    net: &mut [u64],
     script: &[u8],
     answers: &mut [u8],
     under: &mut [u32],
     over: &mut [u32],
 ) -> Session
-    requires { ⌜ Checked (now sheet) free × (answerLength * lines (now script) ≤ length (now answers)) ⌝ }
-    ensures { λ r. ⌜ Progress (now (sheet .entry)) (now (script .entry)) free (now (answers .entry)) (now (under .entry)) (now (over .entry)) (lines (now (script .entry))) r (now (answers .exit)) (now (under .exit)) (now (over .exit)) ⌝ }
+    requires { ⌜ ((s : List ℕ) × Checked s (freeOf (now net)) × NetOf s (now net)) × (answerLength * lines (now script) ≤ length (now answers)) ⌝ }
+    ensures { λ r. ⌜ ((s : List ℕ) → Checked s (freeOf (now (net .entry))) → NetOf s (now (net .entry)) → Progress s (now (script .entry)) (freeOf (now (net .entry))) (now (answers .entry)) (now (under .entry)) (now (over .entry)) (lines (now (script .entry))) r (now (answers .exit)) (now (under .exit)) (now (over .exit))) ⌝ }
 {
     let n = script.len() / 4;
     let mut session = session::entries::empty();
     let mut i: usize = 0;
     while i < n {
-        session = run_line(session, i, sheet, free, script, answers, under, over);
+        session = run_line(session, i, net, script, answers, under, over);
         i += 1;
     }
     session
@@ -135,7 +135,9 @@ pub fn run(
             over: 0,
         };
     }
-    let last = run_lines(sheet, checked.free, script, answers, under, over);
+    let mut net = [0u64; 468];
+    net::load(sheet, checked.free as u64, &mut net);
+    let last = run_lines(&mut net, script, answers, under, over);
     Ran {
         number: 0,
         place: 0,

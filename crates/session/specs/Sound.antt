@@ -6,11 +6,12 @@ use mathlib.Core.Bool.{false}
 use mathlib.Core.List.{List, []}
 use lib.ListN.{length, take}
 use lib.Seq.{length-take-le, getD-take, take-take}
-use Rattle.formula.specs.Ask.{freeMask}
 use Rattle.words.specs.Word.{bit}
-use Rattle.sheet.specs.Frames.{frames, kind, formula, Ordered}
 use Rattle.sheet.specs.Rules.{variables}
-use Rattle.records.specs.Table.{valid-empty}
+use Rattle.records.specs.Both.{tables-none}
+use Rattle.net.specs.Layout.{freeOf}
+use Rattle.net.specs.Sheet.{NetOf}
+pub use Rattle.net.specs.Sheet.{Checked}
 use Rattle.solver.specs.Contract.{root, Tables, Ready}
 use Rattle.session.specs.declared.Entry.{Entry}
 use Rattle.session.specs.declared.Session.{Session}
@@ -28,13 +29,6 @@ WordsKept x = Words (standingOf x) (x .entered .mask) (x .entered .values)
 -- what the reference model takes from a sheet: the meaning of its last frame
 abbrev pub sheetMeaning : List ℕ → Meaning
 sheetMeaning s = meaning variables (root s)
-
--- s is a sheet that was checked, and free are the free (open) variables of its last frame
-pub record Checked (s : List ℕ) (free : ℕ) : Type 0 where
-  pub ordered : Ordered 32 (kind s)
-  pub some : 0 < frames s
-  pub few : frames s ≤ 200
-  pub opens : free ≡ freeMask 32 (root s)
 
 -- the array has its length, and as many entries stand as there are variables at most, each of one that no earlier entry has; their words are kept
 pub record Shaped (x : Session) : Type 0 where
@@ -78,20 +72,25 @@ module _ {s : List ℕ} {free : ℕ} {x : Session} {u o : List ℕ} (d : Sound s
   }
 
   -- what the model calls open is what the word of the free variables has
-  pub sound-opens : (v : ℕ) → sheetMeaning s .opens v ≡ bit free v
-  sound-opens v = sym (rw (d .sheet .opens) (bit-opens variables (root s) v))
+  pub sound-opens : {f : ℕ} → f ≡ free → (v : ℕ) → sheetMeaning s .opens v ≡ bit f v
+  sound-opens e v = sym (rw (e, d .sheet .opens) (bit-opens variables (root s) v))
 
-  -- as the solver wants its entries
-  pub sound-ready : Ready s free (x .entered .mask) (x .entered .values) u (x .under) o (x .over)
-  sound-ready = record {
-    ordered = d .sheet .ordered;
-    some = d .sheet .some;
-    few = d .sheet .few;
-    opens = d .sheet .opens;
-    entered = rw (d .sheet .opens) (words-opened variables (root s) (d .entered) (d .words));
-    valued = words-valued (d .words);
-    tables = d .tables;
-  }
+-- ---- on the sheet's net
+
+-- a line is lent the net of the sheet, and the sheet's free variables stand in it
+pub record OnNet (s net : List ℕ) (x : Session) (u o : List ℕ) : Type 0 where
+  pub net-of : NetOf s net
+  pub sound : Sound s (freeOf net) x u o
+
+-- as the solver wants its entries
+pub net-ready : {s net : List ℕ} {x : Session} {u o : List ℕ} → OnNet s net x u o → Ready s net (x .entered .mask) (x .entered .values) u (x .under) o (x .over)
+net-ready {s} d = record {
+  checked = d .sound .sheet;
+  net-of = d .net-of;
+  entered = rw (d .sound .sheet .opens) (words-opened variables (root s) (d .sound .entered) (d .sound .words));
+  valued = words-valued (d .sound .words);
+  tables = d .sound .tables;
+}
 
 -- ---- no entry, and no record
 
@@ -118,5 +117,5 @@ empty-sound {s} {x = x} u o k e = record {
   within = omega (arith, e .none);
   entered = rw (empty-standing e) (none-entered (sheetMeaning s));
   words = empty-words e;
-  tables = rw (e .under, e .over) (record { under = valid-empty (formula s) (frames s) _ u; over = valid-empty (formula s) (frames s) _ o });
+  tables = rw (e .under, e .over) (tables-none u o);
 }

@@ -14,7 +14,7 @@ use Rattle.words.specs.Mask.{without-more}
 use Rattle.cube.specs.Cube.{Fixed, Freed, fixed-mask, fixed-values, freed-one}
 use Rattle.formula.specs.Ask.{Verdict}
 use Rattle.sheet.specs.Rules.{variables, spareSet}
-use Rattle.records.specs.Table.{grown-refl}
+use Rattle.records.specs.Both.{tables-same}
 use Rattle.solver.specs.Contract.{root, TablesGrown, Same}
 use Rattle.session.specs.declared.Entry.{Entry}
 use Rattle.session.specs.declared.Session.{Session}
@@ -29,18 +29,19 @@ use Rattle.session.specs.Step.{askOf, whyOf, PromisedFor, Tells, Replies
 
 module _ {mask values mask' values' : ℕ} (es : List Entry) (e : Entry) (low : e .variable < 32) (absent : entered es (e .variable) ≡ false) where
   -- no value is replaced: no other entry is of the variable
-  pub words-more : Words es mask values → Fixed 32 mask values (e .variable) (eqb (e .value) 1) mask' values' → Words (es ++ (e ∷ [])) mask' values'
+  pub words-more : Words es mask values → Fixed 64 mask values (e .variable) (eqb (e .value) 1) mask' values' → Words (es ++ (e ∷ [])) mask' values'
   words-more w F =
+      let wide : e .variable < 64 = omega arith in
       let none : bit values (e .variable) ≡ false = rw (w .values-are) (value-none es (e .variable) absent) in
       record {
-        mask-is = rw (mask-snoc es e) (fixed-mask F low ∙ rw (w .mask-is));
-        values-are = rw (values-snoc es e) (fixed-values F low none ∙ rw (w .values-are));
+        mask-is = rw (mask-snoc es e) (fixed-mask F wide ∙ rw (w .mask-is));
+        values-are = rw (values-snoc es e) (fixed-values F wide none ∙ rw (w .values-are));
       }
 
   -- both its bits go, and no other
-  pub words-less : Words (es ++ (e ∷ [])) mask values → Freed 32 mask values (e .variable) mask' values' → Words es mask' values'
+  pub words-less : Words (es ++ (e ∷ [])) mask values → Freed 64 mask values (e .variable) mask' values' → Words es mask' values'
   words-less w F =
-      let G = freed-one low F in
+      let G = freed-one (omega arith) F in
       let unmasked : bit (enteredMask es) (e .variable) ≡ false = bit-enteredMask es (e .variable) ∙ absent in
       let unvalued : bit (enteredValues es) (e .variable) ≡ false = value-none es (e .variable) absent in
       record {
@@ -51,13 +52,13 @@ module _ {mask values mask' values' : ℕ} (es : List Entry) (e : Entry) (low : 
 -- in a session: an entry put last, and the latest one struck
 module _ {x : Session} {mask' values' : ℕ} where
   pub words-put : (e : Entry) → Shaped x → x .len < 32 → Fresh x (e .variable)
-      → Fixed 32 (x .entered .mask) (x .entered .values) (e .variable) (eqb (e .value) 1) mask' values'
+      → Fixed 64 (x .entered .mask) (x .entered .values) (e .variable) (eqb (e .value) 1) mask' values'
       → Words (take (x .len + 1) (set (x .entries) (x .len) e)) mask' values'
   words-put e d room f F =
       rw (add-one, take-suc-set (x .entries) (x .len) e (omega (arith, d .cells))) (words-more (standingOf x) e (f .low) (f .absent) (d .words) F)
 
   pub words-struck : Shaped x → 0 < x .len
-      → Freed 32 (x .entered .mask) (x .entered .values) (entryAt (x .entries) (x .len - 1) .variable) mask' values'
+      → Freed 64 (x .entered .mask) (x .entered .values) (entryAt (x .entries) (x .len - 1) .variable) mask' values'
       → Words (take (x .len - 1) (x .entries)) mask' values'
   words-struck d some F =
       let n = x .len - 1 in
@@ -117,7 +118,7 @@ module _ {s : List ℕ} {free : ℕ} {x : Session} {u o : List ℕ} (d : Sound s
           words = M .words;
           tables = t;
         };
-        kept = record { tables = t; under = rw (M .under) (grown-refl u (x .under)); over = rw (M .over) (grown-refl o (x .over)) };
+        kept = rw (M .under, M .over) (tables-same (d .tables));
         refused-same = λ h. same;
         quiet-same = λ h. same;
         promised = λ z e. absurd (quiet z e);

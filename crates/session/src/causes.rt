@@ -10,7 +10,7 @@ ghost use Rattle.session.specs.Sound.{standingOf, Shaped};
 ghost use Rattle.session.specs.Causes.{Opens, enterCause};
 use crate::Session;
 use sheet::refusal;
-use words::w32;
+use words::w64;
 
 // The kinds of a line.
 pub const ENTER: u8 = 0x10;
@@ -53,17 +53,17 @@ fn unknown(k: u8, a: u8, b: u8, c: u8) -> bool
 }
 
 // Whether the word has the variable; one past the last place it has not.
-fn has(word: u32, variable: u8) -> bool
+fn has(word: u64, variable: u8) -> bool
     ensures { λ r. ⌜ r ≡ bit word variable ⌝ }
 {
-    if variable < 32 {
-        return w32::has(word, variable);
+    if variable < 64 {
+        return w64::has(word, variable);
     }
     false
 }
 
 // Why an ENTER is refused, or 0.
-fn enter_cause(free: u32, mask: u32, a: u8, b: u8, c: u8) -> u8
+fn enter_cause(free: u64, mask: u64, a: u8, b: u8, c: u8) -> u8
     ensures { λ r. ⌜ r ≡ enterCause free mask a b c ⌝ }
 {
     if !has(free, a) {
@@ -102,7 +102,7 @@ fn read_cause(n: usize, a: u8) -> u8
 }
 
 // The number by which a line is refused, or 0; free are the variables that may be entered.
-pub fn line_cause(session: Session, free: u32, k: u8, a: u8, b: u8, c: u8) -> u8
+pub fn line_cause(session: Session, free: u64, k: u8, a: u8, b: u8, c: u8) -> u8
     requires { ⌜ Shaped session ⌝ }
     ensures { λ r. ⌜ ((m : Meaning) → Opens m free → r ≡ lineRefusal m (standingOf session) k a b c) ⌝ }
 {

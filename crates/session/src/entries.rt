@@ -8,7 +8,7 @@ ghost use Rattle.session.specs.Sound.{standingOf, Shaped, Fresh, Empty};
 ghost use Rattle.session.specs.Step.{Moved};
 use crate::Entry;
 use crate::Session;
-use cube::Cube;
+use cube::Cube64;
 
 // No entry and no record.
 pub fn empty() -> Session
@@ -22,7 +22,7 @@ pub fn empty() -> Session
     Session {
         entries: [none; 32],
         len: 0,
-        entered: Cube::UNFIXED,
+        entered: Cube64::UNFIXED,
         under: 0,
         over: 0,
     }

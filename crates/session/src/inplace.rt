@@ -1,27 +1,30 @@
 // The session lent by `&mut` and stepped in place, one script line a step; thin over `line::step`.
-ghost use Rattle.session.specs.Sound.{Sound};
+ghost use mathlib.Core.Path.{_≡_};
+ghost use mathlib.Core.List.{List};
+ghost use Prim.Native.Nat.{ℕ};
+ghost use Rattle.net.specs.Layout.{freeOf};
+ghost use Rattle.session.specs.Sound.{OnNet};
 ghost use Rattle.session.specs.Step.{Step};
 use crate::Answer;
 use crate::Session;
 use crate::Stepped;
 use crate::line;
 
-// The session's line: the answer is returned, and the session is stored back.
-pub fn step<'s, 'h, 'u, 'o>(
+// The session's line: the answer is returned, and the session is stored back. The net is as before after it.
+pub fn step<'s, 'n, 'u, 'o>(
     session: &'s mut Session,
     k: u8,
     a: u8,
     b: u8,
     c: u8,
-    sheet: &'h [u8],
-    free: u32,
+    net: &'n mut [u64],
     under: &'u mut [u32],
     over: &'o mut [u32],
 ) -> Answer
-    requires { ⌜ Sound (now sheet) free (now session) (now under) (now over) ⌝ }
-    ensures { λ r. ⌜ Step (now (sheet .entry)) free (now (session .entry)) (now (under .entry)) (now (over .entry)) k a b c (now (session .exit)) (now (under .exit)) (now (over .exit)) (r .number) (r .v) (r .word) ⌝ }
+    requires { ⌜ ((s : List ℕ) × OnNet s (now net) (now session) (now under) (now over)) ⌝ }
+    ensures { λ r. ⌜ (now (net .exit) ≡ now (net .entry)) × ((s : List ℕ) → OnNet s (now (net .entry)) (now (session .entry)) (now (under .entry)) (now (over .entry)) → Step s (freeOf (now (net .entry))) (now (session .entry)) (now (under .entry)) (now (over .entry)) k a b c (now (session .exit)) (now (under .exit)) (now (over .exit)) (r .number) (r .v) (r .word)) ⌝ }
 {
-    let next = line::step(*session, k, a, b, c, sheet, free, under, over);
+    let next = line::step(*session, k, a, b, c, net, under, over);
     *session = next.session;
     next.answer
 }
@@ -33,16 +36,15 @@ pub fn step_lent(
     a: u8,
     b: u8,
     c: u8,
-    sheet: &[u8],
-    free: u32,
+    net: &mut [u64],
     under: &mut [u32],
     over: &mut [u32],
 ) -> Stepped
-    requires { ⌜ Sound (now sheet) free session (now under) (now over) ⌝ }
-    ensures { λ r. ⌜ Step (now (sheet .entry)) free session (now (under .entry)) (now (over .entry)) k a b c (r .session) (now (under .exit)) (now (over .exit)) (r .answer .number) (r .answer .v) (r .answer .word) ⌝ }
+    requires { ⌜ ((s : List ℕ) × OnNet s (now net) session (now under) (now over)) ⌝ }
+    ensures { λ r. ⌜ (now (net .exit) ≡ now (net .entry)) × ((s : List ℕ) → OnNet s (now (net .entry)) session (now (under .entry)) (now (over .entry)) → Step s (freeOf (now (net .entry))) session (now (under .entry)) (now (over .entry)) k a b c (r .session) (now (under .exit)) (now (over .exit)) (r .answer .number) (r .answer .v) (r .answer .word)) ⌝ }
 {
     let mut own = session;
-    let answer = step(&mut own, k, a, b, c, sheet, free, under, over);
+    let answer = step(&mut own, k, a, b, c, net, under, over);
     Stepped {
         session: own,
         answer,

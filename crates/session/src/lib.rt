@@ -4,7 +4,7 @@ pub mod entries;
 pub mod inplace;
 pub mod line;
 
-use cube::Cube;
+use cube::Cube64;
 
 // A variable that is entered, its value, and the desk that entered it.
 pub struct Entry {
@@ -18,7 +18,7 @@ pub struct Entry {
 pub struct Session {
     pub entries: [Entry; 32],
     pub len: usize,
-    pub entered: Cube,
+    pub entered: Cube64,
     pub under: usize,
     pub over: usize,
 }
@@ -27,7 +27,7 @@ pub struct Session {
 pub struct Answer {
     pub number: u8,
     pub v: u8,
-    pub word: u32,
+    pub word: u64,
 }
 
 // A session after a line, and the line's answer.

@@ -1,10 +1,12 @@
 // One script line by value.
-ghost use mathlib.Core.List.{[], _∷_, _++_};
-ghost use Prim.Native.Nat.{_+_, _-_, _<_};
+ghost use mathlib.Core.Path.{_≡_};
+ghost use mathlib.Core.List.{List, [], _∷_, _++_};
+ghost use Prim.Native.Nat.{ℕ, _+_, _-_, _<_};
 ghost use lib.ListN.{length, take};
+ghost use Rattle.net.specs.Layout.{freeOf};
 ghost use Rattle.session.specs.Model.{reply, refused, counted, told, judged};
 ghost use Rattle.session.specs.Entries.{entryAt};
-ghost use Rattle.session.specs.Sound.{standingOf, Shaped, Fresh, Sound};
+ghost use Rattle.session.specs.Sound.{standingOf, Shaped, Fresh, OnNet};
 ghost use Rattle.session.specs.Step.{askOf, whyOf, PromisedFor, Tells, Replies, Recounted, Searches, Step};
 use crate::Answer;
 use crate::Entry;
@@ -16,6 +18,7 @@ use crate::causes::ENTER;
 use crate::causes::READ;
 use crate::causes::TAKE_BACK;
 use crate::entries;
+use records::Counts;
 
 // A line that is refused by that number: nothing changes.
 fn refuse(session: Session, number: u8) -> Stepped
@@ -40,7 +43,7 @@ fn tell_entry(entry: Entry) -> Answer
     Answer {
         number: 0,
         v: entry.variable,
-        word: 256 * (entry.desk as u32) + entry.value as u32,
+        word: 256 * (entry.desk as u64) + entry.value as u64,
     }
 }
 
@@ -89,7 +92,7 @@ fn read(session: Session, place: u8) -> Stepped
 }
 
 // A verdict, as ASK and WHY tell it.
-fn tell_verdict(holds: bool, word: u32) -> Answer
+fn tell_verdict(holds: bool, word: u64) -> Answer
     ensures { λ r. ⌜ Tells (judged (record { holds = holds; word = word })) (r .number) (r .v) (r .word) ⌝ }
 {
     if holds {
@@ -116,22 +119,19 @@ fn recount(session: Session, under: usize, over: usize) -> Session
     next
 }
 
-fn ask(session: Session, sheet: &[u8], free: u32, under: &mut [u32], over: &mut [u32]) -> Stepped
-    requires { ⌜ Sound (now sheet) free session (now under) (now over) ⌝ }
-    ensures { λ r. ⌜ Searches (now (sheet .entry)) session (now (under .entry)) (now (over .entry)) (askOf (now (sheet .entry)) (standingOf session)) (r .session) (now (under .exit)) (now (over .exit)) (r .answer .number) (r .answer .v) (r .answer .word) ⌝ }
-    ensures { λ r. ⌜ PromisedFor (now (sheet .entry)) (standingOf session) (now (under .exit)) (r .session .under) (now (over .exit)) (r .session .over) ⌝ }
+fn ask(session: Session, net: &mut [u64], under: &mut [u32], over: &mut [u32]) -> Stepped
+    requires { ⌜ ((s : List ℕ) × OnNet s (now net) session (now under) (now over)) ⌝ }
+    ensures { λ r. ⌜ now (net .exit) ≡ now (net .entry) ⌝ }
+    ensures { λ r. ⌜ ((s : List ℕ) → OnNet s (now (net .entry)) session (now (under .entry)) (now (over .entry)) → Searches s session (now (under .entry)) (now (over .entry)) (askOf s (standingOf session)) (r .session) (now (under .exit)) (now (over .exit)) (r .answer .number) (r .answer .v) (r .answer .word) × PromisedFor s (standingOf session) (now (under .exit)) (r .session .under) (now (over .exit)) (r .session .over)) ⌝ }
 {
-    let found = solver::ask(
-        sheet,
-        free,
-        session.entered.mask,
-        session.entered.values,
-        under,
-        session.under,
-        over,
-        session.over,
-    );
-    let next = recount(session, found.under, found.over);
+    let kept = Counts {
+        under: session.under,
+        over: session.over,
+    };
+    let entered = session.entered;
+    let found = solver::ask(net, entered.mask, entered.values, under, over, kept);
+    let after = found.kept;
+    let next = recount(session, after.under, after.over);
     let answer = tell_verdict(found.holds, found.word);
     Stepped {
         session: next,
@@ -139,21 +139,19 @@ fn ask(session: Session, sheet: &[u8], free: u32, under: &mut [u32], over: &mut 
     }
 }
 
-fn why(session: Session, sheet: &[u8], free: u32, under: &mut [u32], over: &mut [u32]) -> Stepped
-    requires { ⌜ Sound (now sheet) free session (now under) (now over) ⌝ }
-    ensures { λ r. ⌜ Searches (now (sheet .entry)) session (now (under .entry)) (now (over .entry)) (whyOf (now (sheet .entry)) (standingOf session)) (r .session) (now (under .exit)) (now (over .exit)) (r .answer .number) (r .answer .v) (r .answer .word) ⌝ }
+fn why(session: Session, net: &mut [u64], under: &mut [u32], over: &mut [u32]) -> Stepped
+    requires { ⌜ ((s : List ℕ) × OnNet s (now net) session (now under) (now over)) ⌝ }
+    ensures { λ r. ⌜ now (net .exit) ≡ now (net .entry) ⌝ }
+    ensures { λ r. ⌜ ((s : List ℕ) → OnNet s (now (net .entry)) session (now (under .entry)) (now (over .entry)) → Searches s session (now (under .entry)) (now (over .entry)) (whyOf s (standingOf session)) (r .session) (now (under .exit)) (now (over .exit)) (r .answer .number) (r .answer .v) (r .answer .word)) ⌝ }
 {
-    let found = solver::why(
-        sheet,
-        free,
-        session.entered.mask,
-        session.entered.values,
-        under,
-        session.under,
-        over,
-        session.over,
-    );
-    let next = recount(session, found.under, found.over);
+    let kept = Counts {
+        under: session.under,
+        over: session.over,
+    };
+    let entered = session.entered;
+    let found = solver::why(net, entered.mask, entered.values, under, over, kept);
+    let after = found.kept;
+    let next = recount(session, after.under, after.over);
     let answer = tell_verdict(found.holds, found.word);
     Stepped {
         session: next,
@@ -161,22 +159,21 @@ fn why(session: Session, sheet: &[u8], free: u32, under: &mut [u32], over: &mut 
     }
 }
 
-// A line with kind k and bytes a, b, c; free are the free variables of the sheet's last frame.
+// A line with kind k and bytes a, b, c.
 pub fn step(
     session: Session,
     k: u8,
     a: u8,
     b: u8,
     c: u8,
-    sheet: &[u8],
-    free: u32,
+    net: &mut [u64],
     under: &mut [u32],
     over: &mut [u32],
 ) -> Stepped
-    requires { ⌜ Sound (now sheet) free session (now under) (now over) ⌝ }
-    ensures { λ r. ⌜ Step (now (sheet .entry)) free session (now (under .entry)) (now (over .entry)) k a b c (r .session) (now (under .exit)) (now (over .exit)) (r .answer .number) (r .answer .v) (r .answer .word) ⌝ }
+    requires { ⌜ ((s : List ℕ) × OnNet s (now net) session (now under) (now over)) ⌝ }
+    ensures { λ r. ⌜ (now (net .exit) ≡ now (net .entry)) × ((s : List ℕ) → OnNet s (now (net .entry)) session (now (under .entry)) (now (over .entry)) → Step s (freeOf (now (net .entry))) session (now (under .entry)) (now (over .entry)) k a b c (r .session) (now (under .exit)) (now (over .exit)) (r .answer .number) (r .answer .v) (r .answer .word)) ⌝ }
 {
-    let number = causes::line_cause(session, free, k, a, b, c);
+    let number = causes::line_cause(session, net::free(&net[..]), k, a, b, c);
     if number != 0 {
         return refuse(session, number);
     }
@@ -190,7 +187,7 @@ pub fn step(
         return read(session, a);
     }
     if k == ASK {
-        return ask(session, sheet, free, under, over);
+        return ask(session, net, under, over);
     }
-    why(session, sheet, free, under, over)
+    why(session, net, under, over)
 }

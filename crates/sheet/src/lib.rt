@@ -65,11 +65,3 @@ pub fn decode(bytes: &[u8], number: usize) -> Frame
         kind: Kind::Never,
     }
 }
-
-// The same, taken by a reader: for whoever wants a frame by its number.
-pub fn frame_at(bytes: &[u8], number: usize) -> Frame
-    ensures { λ r. ⌜ (r .number ≡ number) × (r .kind ≡ kind (now (bytes .entry)) number) ⌝ }
-{
-    let mut reader = reader::new(bytes, number);
-    reader::next(&mut reader)
-}

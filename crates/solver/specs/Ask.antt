@@ -1,29 +1,31 @@
 -- What ASK does beside the search: the smallest word from what was found, and the record that document 01 promises. Assumes nothing.
-use Prim.Native.Nat.{ℕ, zero, suc, _+_, _-_, _*_, _≤_, _<_, _^_}
+use Prim.Native.Nat.{ℕ, _+_, _-_, _%_, _<_}
 use native.Mathlib.Omega.{arith}
 use mathlib.Core.Path.{_≡_, refl, sym, _∙_, ap}
 use mathlib.Core.Bool.{Bool, true, false, not, _&&_}
-use mathlib.Core.Logic.{inl, inr}
 use mathlib.Core.List.{List}
 use lib.ListN.{length}
 use lib.Bits.{bitAnd}
-use Rattle.words.specs.Logic.{by-bool, clash}
+use Rattle.words.specs.Logic.{clash}
 use Rattle.words.specs.Word.{bit}
-use Rattle.words.specs.Mask.{Sub, Apart, without, bit-without, sub-bits, bits-apart, bits-sub, and-sub, bits-masked, without-apart, without-sub, apart-sub, apart-sym}
+use Rattle.words.specs.Mask.{Sub, Apart, without, bit-without, sub-bits, bits-apart, bits-sub, and-sub, bits-masked, sub-lt, sub-refl, sub-trans, or-sum, or-sub, without-sub, without-apart, apart-sub, apart-sym}
+use Rattle.cube.specs.Cube.{Made, made-sub, made-same}
 use Rattle.formula.specs.Assignment.{Assignment}
-use Rattle.formula.specs.Formula.{Formula, truth, free}
+use Rattle.formula.specs.Formula.{Formula, truth}
 use Rattle.formula.specs.Reason.{Explains, explains-truth}
 use Rattle.formula.specs.ReasonWord.{word-values}
-use Rattle.formula.specs.Ask.{Verdict, Bounded, freeMask, bit-free, ask, yes, ask-chosen, ask-explained}
+use Rattle.formula.specs.Ask.{Bounded, freeMask, freeMask-lt, ask, yes, ask-chosen, ask-explained}
 use Rattle.formula.specs.Ask as Question
 use Rattle.sheet.specs.Frames.{frames, formula}
-use Rattle.sheet.specs.Accepted.{ordered-bounded}
 use Rattle.records.specs.Table.{Valid, Grown, Kept, matches, grown-refl, grown-trans}
 use Rattle.records.specs.Put.{Put, valid-put, kept-put}
 use Rattle.records.specs.Search.{FirstBelow, first-kept}
-use Rattle.solver.specs.Contract.{last, root, Tables, Ready, TablesGrown, Promised, Same}
-use Rattle.solver.specs.Frames.{val}
-use Rattle.solver.specs.Search.{Ground, Posed, Met, Missed}
+use Rattle.records.specs.Both as Both
+use Rattle.net.specs.Layout.{framesOf, freeOf, formulaAt, val}
+use Rattle.search.specs.Search.{Found, Lost}
+use Rattle.solver.specs.Contract.{last, root, Ready, TablesGrown, Promised, Same}
+use Rattle.solver.specs.Across.{found-stands, lost-stands, root-stands, root-bounded, bit-opens, tables-net, grown-sheet}
+use Rattle.solver.specs.Question.{scratchWords, blank, Asking}
 
 -- a record that matches is kept, and the table stays true where the reason holds
 pub record Ensured (t : List ℕ) (count : ℕ) (t' : List ℕ) (count' frame assigned setting reason : ℕ) : Type 0 where
@@ -45,81 +47,135 @@ ensured-put assigned setting {reason} p = record {
   valid = λ φ n v G l E. valid-put G p l (and-sub setting reason) (word-values reason setting E);
 }
 
--- ---- what the root's free variables are
+-- ---- a sheet that is ready
 
-module _ {s : List ℕ} {opens mask values : ℕ} {u : List ℕ} {cu : ℕ} {o : List ℕ} {co : ℕ} (R : Ready s opens mask values u cu o co) where
+module _ {s net : List ℕ} {mask values : ℕ} {u : List ℕ} {cu : ℕ} {o : List ℕ} {co : ℕ} (R : Ready s net mask values u cu o co) where
+  pub ready-some : 0 < framesOf net
+  ready-some = omega (arith, R .checked .some, R .net-of .count)
+
   pub ready-bounded : Bounded 32 (root s)
-  ready-bounded = ordered-bounded 32 _ (R .ordered) (last s)
+  ready-bounded = root-bounded (R .net-of) ready-some
 
-  pub ready-ground : Ground s u cu o co
-  ready-ground = record { ordered = R .ordered; few = R .few; tables = R .tables }
+  -- a question for the truth t over a cube m, w of entered variables
+  pub ready-asking : (t : ℕ) {f loose m w : ℕ} {cells wants : List ℕ} → 0 < t → t < 3 → f ≡ freeOf net → loose ≡ without f m → Sub m mask → Sub w m
+      → cells ≡ blank → length wants ≡ scratchWords → Asking s net t loose m w cells wants u cu o co
+  ready-asking t a b e l i j c d = record {
+    net-of = R .net-of;
+    some = ready-some;
+    target-some = a;
+    target-low = b;
+    assigned = sub-trans i (R .entered);
+    valued = j;
+    loose-is = rw e at l;
+    cells-are = c;
+    long = d;
+    tables = tables-net (R .net-of) (R .tables);
+  }
+
+  -- over the entries
+  pub entered-asking : (t : ℕ) {f loose m w : ℕ} {cells wants : List ℕ} → 0 < t → t < 3 → f ≡ freeOf net → loose ≡ without f mask → Made mask values m w
+      → cells ≡ blank → length wants ≡ scratchWords → Asking s net t loose m w cells wants u cu o co
+  entered-asking t a b e l M c d = ready-asking t a b e (rw (M .mask) l) (rw (M .mask) (sub-refl mask)) (made-sub M) c d
+
+  -- what is found or lost is so of the sheet
+  pub ready-found : {v : Bool} {loose w word r : ℕ} → Found (formulaAt net (framesOf net - 1)) v loose w word r → Found (root s) v loose w word r
+  ready-found h = found-stands (root-stands (R .net-of) ready-some) h
+
+  pub ready-lost : {v : Bool} {loose w r : ℕ} → Lost (formulaAt net (framesOf net - 1)) v loose w r → Lost (root s) v loose w r
+  ready-lost h = lost-stands (root-stands (R .net-of) ready-some) h
+
+  pub ready-grown : {u' : List ℕ} {cu' : ℕ} {o' : List ℕ} {co' : ℕ}
+      → Both.TablesGrown (formulaAt net) (framesOf net) u cu o co u' cu' o' co' → TablesGrown s u cu o co u' cu' o' co'
+  ready-grown G = grown-sheet (R .net-of) G
+
+  -- ---- reasons and words
+
+  pub reason-free : {r : ℕ} {v : Bool} {w : Assignment} → Explains (root s) v (bit r) w → Sub r (freeOf net)
+  reason-free {r} E = sub-bits r (freeOf net) (λ k e. bit-opens (R .net-of) ready-some k ∙ E .inside k e)
 
   -- a reason that avoids the free variables off m lies in m
-  pub reason-inside : {m r : ℕ} {v : Bool} {w : Assignment} → Explains (root s) v (bit r) w → Apart r (without opens m) → Sub r m
+  pub reason-inside : {m r : ℕ} {v : Bool} {w : Assignment} → Explains (root s) v (bit r) w → Apart r (without (freeOf net) m) → Sub r m
   reason-inside {m} {r} E a = sub-bits r m (λ k e.
-      go (bit opens k) (bit m k) (ap (λ (x : ℕ). bit x k) (R .opens) ∙ bit-free ready-bounded k ∙ E .inside k e) (sym (bit-without opens m k) ∙ bits-apart a k e))
+      go (bit (freeOf net) k) (bit m k) (bits-sub (reason-free E) k e) (sym (bit-without (freeOf net) m k) ∙ bits-apart a k e))
     where
       go : (p q : Bool) → p ≡ true → (p && not q) ≡ false → q ≡ true
       go true true e f = refl
       go true false e f = sym f
       go false q e f = clash false e refl
 
-  pub ready-posed : (t : ℕ) {loose m w : ℕ} → t < 2 → loose ≡ without opens mask → (m ≡ mask) → (w ≡ values) → Posed s (last s) t loose m w
-  ready-posed t l e em ew = record {
-    here = omega (arith, R .some);
-    target = l;
-    apart = rw (em, e) (apart-sym (without-apart opens mask));
-    clear = rw (ew, e) (apart-sym (apart-sub (without-apart opens mask) (R .valued)));
-  }
+  -- the word that was found has free variables only
+  pub word-free : {v : Bool} {loose w word r : ℕ} → loose ≡ without (freeOf net) mask → w ≡ values → Found (root s) v loose w word r → Sub word (freeOf net)
+  word-free {word = word} e ew h =
+      let i = rw e at (h .inside) in
+      let d : values + h .chosen ≡ word = ap (λ (x : ℕ). x + h .chosen) (sym ew) ∙ sym (h .is) in
+      rw (sym d, sym (or-sum (apart-sub (apart-sym (apart-sub (without-apart (freeOf net) mask) (R .valued))) i)))
+      (or-sub (sub-trans (R .valued) (R .entered)) (sub-trans i (without-sub (freeOf net) mask)))
+
+  -- a word of free variables is one of 32 places, so that records have all of it
+  pub low-same : {x y : ℕ} → Sub x (freeOf net) → y ≡ x % 4294967296 → y ≡ x
+  low-same {x} {y} i e = omega (arith, e, sub-lt 32 i (rw (R .net-of .opens) (freeMask-lt 32 (root s))))
 
   -- ---- the verdict
 
-  pub ask-found : {loose w word r : ℕ} → loose ≡ without opens mask → w ≡ values → Met s (last s) 1 loose w word r → ask 32 (root s) mask values ≡ yes word
-  unfolding val
+  pub ask-found : {loose w word r : ℕ} → loose ≡ without (freeOf net) mask → w ≡ values → Found (root s) true loose w word r → ask 32 (root s) mask values ≡ yes word
   ask-found {word = word} e ew h =
-      let f : without opens mask ≡ without (freeMask 32 (root s)) mask = ap (λ (x : ℕ). without x mask) (R .opens) in
+      let f : without (freeOf net) mask ≡ without (freeMask 32 (root s)) mask = ap (λ (x : ℕ). without x mask) (R .net-of .opens) in
       let d : word ≡ values + h .chosen = h .is ∙ ap (λ (x : ℕ). x + h .chosen) ew in
       rw d
-      (ask-chosen 32 (root s) mask values (h .chosen) (R .valued) (rw (R .opens) at (R .entered)) (rw (e, f) at (h .inside))
+      (ask-chosen 32 (root s) mask values (h .chosen) (R .valued) (rw (R .net-of .opens) at (R .entered)) (rw (e, f) at (h .inside))
       (ap (λ (x : ℕ). truth (root s) (bit x)) (sym d) ∙ explains-truth (h .explains))
       (λ z l i. ap (λ (x : ℕ). truth (root s) (bit (x + z))) (sym ew) ∙ h .least z (rw (e, f) i) (omega (arith, h .is))))
 
-  pub ask-missed : {loose w r : ℕ} → loose ≡ without opens mask → w ≡ values → Missed s (last s) 1 loose w r → ask 32 (root s) mask values ≡ Question.no
-  unfolding val
-  ask-missed {r = r} e ew h =
+  pub ask-lost : {loose w r : ℕ} → loose ≡ without (freeOf net) mask → w ≡ values → Lost (root s) true loose w r → ask 32 (root s) mask values ≡ Question.no
+  ask-lost {r = r} e ew h =
       ask-explained 32 (root s) mask values (rw ew at (h .explains)) (λ k i. bits-sub (reason-inside (h .explains) (rw e at (h .apart))) k i)
 
-  pub reason-free : {r : ℕ} {v : Bool} {w : Assignment} → Explains (root s) v (bit r) w → Sub r opens
-  reason-free {r} E = sub-bits r opens (λ k e. ap (λ (x : ℕ). bit x k) (R .opens) ∙ bit-free ready-bounded k ∙ E .inside k e)
+  -- ---- the verdict with its record, as the code has them: f and n are read off the net, and a record is put of the low parts of words
 
-  -- ---- the verdict with its record
+  module _ {f loose m w n : ℕ} {u1 : List ℕ} {c1 : ℕ} {o1 : List ℕ} {d1 : ℕ} (ef : f ≡ freeOf net) (el : loose ≡ without f mask) (M : Made mask values m w) (en : n ≡ framesOf net)
+      (G : Both.TablesGrown (formulaAt net) (framesOf net) u cu o co u1 c1 o1 d1) where
+    loose-is : loose ≡ without (freeOf net) mask
+    loose-is = rw ef at el
 
-  pub answered-yes : {loose w word r : ℕ} {u1 : List ℕ} {c1 : ℕ} {o1 : List ℕ} {d1 : ℕ} {u2 : List ℕ} {c2 : ℕ}
-      → loose ≡ without opens mask → w ≡ values → Met s (last s) 1 loose w word r → TablesGrown s u cu o co u1 c1 o1 d1 → Ensured u1 c1 u2 c2 (last s) opens word r
-      → Same (ask 32 (root s) mask values) true word × TablesGrown s u cu o co u2 c2 o1 d1 × Promised s mask values (ask 32 (root s) mask values) u2 c2 o1 d1
-  unfolding val
-  answered-yes e ew h k n =
-      let a = ask-found e ew h in (
-        record { holds = rw a; word = rw a },
-        record {
-          tables = record { under = n .valid (formula s) (frames s) true (k .tables .under) (omega (arith, R .some)) (h .explains); over = k .tables .over };
-          under = grown-trans (k .under) (n .grown);
-          over = k .over;
-        },
-        rw (a, ← R .opens) (λ t. n .kept (reason-free (h .explains)), λ t. clash true refl t),
-      )
+    values-are : w ≡ values
+    values-are = made-same M (R .valued)
 
-  pub answered-no : {loose w r : ℕ} {u1 : List ℕ} {c1 : ℕ} {o1 : List ℕ} {d1 : ℕ} {o2 : List ℕ} {d2 : ℕ}
-      → loose ≡ without opens mask → w ≡ values → Missed s (last s) 1 loose w r → TablesGrown s u cu o co u1 c1 o1 d1 → Ensured o1 d1 o2 d2 (last s) mask values r
-      → Same (ask 32 (root s) mask values) false 0 × TablesGrown s u cu o co u1 c1 o2 d2 × Promised s mask values (ask 32 (root s) mask values) u1 c1 o2 d2
-  unfolding val
-  answered-no e ew h k n =
-      let a = ask-missed e ew h in (
-        record { holds = rw a; word = rw a },
-        record {
-          tables = record { under = k .tables .under; over = n .valid (formula s) (frames s) false (k .tables .over) (omega (arith, R .some)) (rw ew at (h .explains)) };
-          under = k .under;
-          over = grown-trans (k .over) (n .grown);
-        },
-        rw a (λ t. clash false t refl, λ t. n .kept (reason-inside (h .explains) (rw e at (h .apart)))),
-      )
+    frame-is : n - 1 ≡ last s
+    frame-is = rw (en, R .net-of .count) refl
+
+    pub answered-yes : {word r assigned setting reason : ℕ} {u2 : List ℕ} {c2 : ℕ} → Found (formulaAt net (framesOf net - 1)) (val 2) loose w word r
+        → assigned ≡ f % 4294967296 → setting ≡ word % 4294967296 → reason ≡ r % 4294967296 → Ensured u1 c1 u2 c2 (n - 1) assigned setting reason
+        → Same (ask 32 (root s) mask values) true word × TablesGrown s u cu o co u2 c2 o1 d1 × Promised s mask values (ask 32 (root s) mask values) u2 c2 o1 d1
+    unfolding val
+    answered-yes {assigned = assigned} h′ ea es er N′ =
+        let h = ready-found h′ in
+        let k = ready-grown G in
+        let a = ask-found loose-is values-are h in
+        let free-is : assigned ≡ freeOf net = low-same (sub-refl (freeOf net)) (rw ef at ea) in
+        let N = rw (frame-is, free-is, low-same (word-free loose-is values-are h) es, low-same (reason-free (h .explains)) er) at N′ in (
+          record { holds = rw a; word = rw a },
+          record {
+            tables = record { under = N .valid (formula s) (frames s) true (k .tables .under) (omega (arith, R .checked .some)) (h .explains); over = k .tables .over };
+            under = grown-trans (k .under) (N .grown);
+            over = k .over;
+          },
+          rw (a, ← R .net-of .opens) (λ t. N .kept (reason-free (h .explains)), λ t. clash true refl t),
+        )
+
+    pub answered-no : {r assigned setting reason : ℕ} {o2 : List ℕ} {d2 : ℕ} → Lost (formulaAt net (framesOf net - 1)) (val 2) loose w r
+        → assigned ≡ mask % 4294967296 → setting ≡ values % 4294967296 → reason ≡ r % 4294967296 → Ensured o1 d1 o2 d2 (n - 1) assigned setting reason
+        → Same (ask 32 (root s) mask values) false 0 × TablesGrown s u cu o co u1 c1 o2 d2 × Promised s mask values (ask 32 (root s) mask values) u1 c1 o2 d2
+    unfolding val
+    answered-no h′ ea es er N′ =
+        let h = ready-lost h′ in
+        let k = ready-grown G in
+        let a = ask-lost loose-is values-are h in
+        let N = rw (frame-is, low-same (R .entered) ea, low-same (sub-trans (R .valued) (R .entered)) es, low-same (reason-free (h .explains)) er) at N′ in (
+          record { holds = rw a; word = rw a },
+          record {
+            tables = record { under = k .tables .under; over = N .valid (formula s) (frames s) false (k .tables .over) (omega (arith, R .checked .some)) (rw values-are at (h .explains)) };
+            under = k .under;
+            over = grown-trans (k .over) (N .grown);
+          },
+          rw a (λ t. clash false t refl, λ t. N .kept (reason-inside (h .explains) (rw loose-is at (h .apart)))),
+        )

@@ -1,10 +1,6 @@
 pub mod Contract
-pub mod Frames
-pub mod Lookahead
-pub mod Judge
-pub mod JudgeLaws
-pub mod Search
-pub mod SearchLaws
+pub mod Across
+pub mod Question
+pub mod QuestionLaws
 pub mod Ask
 pub mod Why
-pub mod LookaheadLaws

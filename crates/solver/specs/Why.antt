@@ -1,27 +1,27 @@
 -- What WHY does: each variable in turn is dropped or kept as the definition says. Assumes nothing.
-use Prim.Native.Nat.{ℕ, zero, suc, _+_, _-_, _*_, _≤_, _<_, _^_}
+use Prim.Native.Nat.{ℕ, suc, _-_, _≤_, _<_, _^_}
 use native.Mathlib.Omega.{arith}
-use native.Mathlib.Numerals.{add-one}
-use mathlib.Core.Path.{_≡_, refl, sym, _∙_, ap, ap₂}
-use mathlib.Core.Bool.{Bool, true, false, not, _&&_, _||_}
+use mathlib.Core.Path.{_≡_, refl, sym, _∙_, ap}
+use mathlib.Core.Bool.{true, false, not}
 use mathlib.Core.List.{List}
+use lib.ListN.{length}
 use lib.Dec.{eqb}
 use borrow.Author.Tests.{eqb-true}
 use Rattle.words.specs.Logic.{by-bool, clash, not-not}
 use Rattle.words.specs.Word.{bit, bit-pow}
-use Rattle.words.specs.Mask.{Sub, Apart, without, bit-without, without-none, sub-bits, bits-apart, bits-sub, sub-trans, sub-without, without-sub, without-apart, without-mono, apart-sub, apart-sym, apart-bits, or-sum, or-sub}
-use Rattle.cube.specs.Cube.{Freed, freed-sub, freed-one}
+use Rattle.words.specs.Mask.{Sub, Apart, without, sub-refl, bits-apart, bits-sub, sub-trans, sub-without, without-sub, without-apart, apart-sub, apart-sym, apart-bits}
+use Rattle.cube.specs.Cube.{Freed, Made, freed-sub, freed-one, made-sub, made-same}
 use Rattle.formula.specs.Assignment.{On}
-use Rattle.formula.specs.Formula.{Formula, truth, free}
 use Rattle.formula.specs.Reason.{Explains, explains-truth, explains-set}
-use Rattle.formula.specs.Ask.{Verdict, freeMask, ask, yes}
-use Rattle.formula.specs.Ask as Question
-use Rattle.formula.specs.Why.{always, reduce, why, startMask, startWord, explains-always, fails-always, reduce-drop, reduce-keep, reduce-skip}
-use Rattle.solver.specs.Contract.{last, root, Ready, TablesGrown, Same}
-use Rattle.solver.specs.Frames.{val, val-flip}
-use Rattle.solver.specs.Search.{Ground, Posed, Met, Missed}
-use Rattle.solver.specs.SearchLaws.{bit-plus, off-mask, or-none, tables-refl, tables-trans}
-use Rattle.solver.specs.Ask.{ready-bounded, reason-inside, reason-free}
+use Rattle.formula.specs.Why.{reduce, why, startMask, startWord, explains-always, fails-always, reduce-drop, reduce-keep, reduce-skip}
+use Rattle.records.specs.Both.{tables-same, tables-then}
+use Rattle.records.specs.Both as Both
+use Rattle.net.specs.Layout.{framesOf, freeOf, formulaAt, val, val-flip}
+use Rattle.search.specs.Search.{Found, Lost}
+use Rattle.search.specs.Halves.{bit-plus, off-mask, or-none}
+use Rattle.solver.specs.Contract.{root, Ready, TablesGrown, Same}
+use Rattle.solver.specs.Question.{scratchWords, blank, Asking}
+use Rattle.solver.specs.Ask.{ready-bounded, ready-asking, ready-found, ready-lost, ready-grown, reason-inside, reason-free, word-free, ask-found, ask-lost}
 
 -- what is left of w is the cube m, y, inside which the variables of r force the last frame's truth v
 pub record Held (s : List ℕ) (v w m y r : ℕ) : Type 0 where
@@ -39,14 +39,15 @@ pub record Turned (s : List ℕ) (v m y r x m′ y′ r′ : ℕ) : Type 0 where
 -- the variable is not there
 pub turned-absent : {s : List ℕ} {v m y r x : ℕ} → bit m x ≡ false → Turned s v m y r x m y r
 turned-absent {s} {v} {m} {x = x} e = record {
-  less = sub-bits m m (λ k h. h);
+  less = sub-refl m;
   valued = λ i. i;
   held = λ w h. h;
   step = λ w h. reduce-skip 32 (root s) w (val v) x m e;
 }
 
-module _ {s : List ℕ} {opens m y : ℕ} {u : List ℕ} {cu : ℕ} {o : List ℕ} {co : ℕ} (R : Ready s opens m y u cu o co)
-    {v x : ℕ} (b : v < 2) (l : x < 32) {m′ y′ : ℕ} (F : Freed 32 m y x m′ y′) where
+-- the cube m, y without x is m′, y′
+module _ {s net : List ℕ} {m y : ℕ} {u : List ℕ} {cu : ℕ} {o : List ℕ} {co : ℕ} (R : Ready s net m y u cu o co)
+    {v x : ℕ} (a : 0 < v) (b : v < 3) (l : x < 64) {m′ y′ : ℕ} (F : Freed 64 m y x m′ y′) where
   mask-is : m′ ≡ without m (2 ^ x)
   mask-is = freed-one l F .mask
 
@@ -62,13 +63,9 @@ module _ {s : List ℕ} {opens m y : ℕ} {u : List ℕ} {cu : ℕ} {o : List �
       ap (λ (z : ℕ). bit z k) values-are ∙ off-mask y (2 ^ x) k (bits-apart (without-apart m (2 ^ x)) k c) ∙ h k (bits-sub (without-sub m (2 ^ x)) k c)
 
   -- the search for the other truth with x dropped
-  pub less-posed : {loose : ℕ} → loose ≡ without opens m′ → Posed s (last s) (1 - v) loose m′ y′
-  less-posed e = record {
-    here = omega (arith, R .some);
-    target = omega arith;
-    apart = rw e (apart-sym (without-apart opens m′));
-    clear = rw e (apart-sym (apart-sub (without-apart opens m′) (freed-sub F (R .valued))));
-  }
+  pub less-asking : {f loose : ℕ} {cells wants : List ℕ} → f ≡ freeOf net → loose ≡ without f m′ → cells ≡ blank → length wants ≡ scratchWords
+      → Asking s net (3 - v) loose m′ y′ cells wants u cu o co
+  less-asking e d c n = ready-asking R (3 - v) (omega arith) (omega arith) e d less-sub (freed-sub F (R .valued)) c n
 
   -- it is outside the proved reason
   pub turned-idle : {r : ℕ} → bit r x ≡ false → Turned s v m y r x m′ y′ r
@@ -83,117 +80,172 @@ module _ {s : List ℕ} {opens m y : ℕ} {u : List ℕ} {cu : ℕ} {o : List �
       stays h = sub-without (h .inside) (apart-bits r (2 ^ x) (λ k i. bit-pow x k ∙ by-bool (eqb k x) (λ q. clash (bit r k) i (ap (bit r) (eqb-true k x q) ∙ e)) (λ q. q)))
 
   -- the search shows that it is idle
-  pub turned-dropped : {loose r q : ℕ} → loose ≡ without opens m′ → Missed s (last s) (1 - v) loose y′ q → Turned s v m y r x m′ y′ q
-  turned-dropped {loose} {r} {q} e h = record {
+  pub turned-dropped : {f loose r q : ℕ} → f ≡ freeOf net → loose ≡ without f m′ → Lost (formulaAt net (framesOf net - 1)) (val (3 - v)) loose y′ q → Turned s v m y r x m′ y′ q
+  turned-dropped {f} {loose} {r} {q} ef e h = record {
     less = less-sub;
     valued = λ i. freed-sub F i;
     held = λ w g. record { same = still-same w (g .same); explains = shown w g; inside = inside-it };
     step = λ w g. rw mask-is (reduce-drop 32 (root s) w (val v) x m (explains-always 32 (root s) (without m (2 ^ x)) w (val v) q (shown w g) (rw mask-is at inside-it)));
   }
     where
-      truth-is : not (val (1 - v)) ≡ val v
-      truth-is = ap not (val-flip v b) ∙ not-not (val v)
+      lost : Lost (root s) (val (3 - v)) loose y′ q
+      lost = ready-lost R h
+
+      truth-is : not (val (3 - v)) ≡ val v
+      truth-is = ap not (val-flip v a b) ∙ not-not (val v)
 
       inside-it : Sub q m′
-      inside-it = reason-inside R (h .explains) (rw e at (h .apart))
+      inside-it = reason-inside R (lost .explains) (rw (e, ef) at (lost .apart))
 
       shown : (w : ℕ) → Held s v w m y r → Explains (root s) (val v) (bit q) (bit w)
-      shown w g = explains-set (rw truth-is at (h .explains)) (bit w) (λ k i. still-same w (g .same) k (bits-sub inside-it k i))
+      shown w g = explains-set (rw truth-is at (lost .explains)) (bit w) (λ k i. still-same w (g .same) k (bits-sub inside-it k i))
 
   -- the search shows that it is not
-  pub turned-kept : {loose r word q : ℕ} → loose ≡ without opens m′ → Apart y′ loose → Met s (last s) (1 - v) loose y′ word q → Turned s v m y r x m y r
-  turned-kept {loose} {r} {word} e d h = record {
-    less = sub-bits m m (λ k i. i);
+  pub turned-kept : {f loose r word q : ℕ} → f ≡ freeOf net → loose ≡ without f m′ → Found (formulaAt net (framesOf net - 1)) (val (3 - v)) loose y′ word q → Turned s v m y r x m y r
+  turned-kept {f} {loose} {r} {word} {q} ef e h = record {
+    less = sub-refl m;
     valued = λ i. i;
     held = λ w g. g;
     step = λ w g. reduce-keep 32 (root s) w (val v) x m
-        (fails-always 32 (root s) (without m (2 ^ x)) w (val v) (ready-bounded R) (bit word) (agrees w g) (explains-truth (h .explains) ∙ val-flip v b));
+        (fails-always 32 (root s) (without m (2 ^ x)) w (val v) (ready-bounded R) (bit word) (agrees w g) (explains-truth (found .explains) ∙ val-flip v a b));
   }
     where
+      found : Found (root s) (val (3 - v)) loose y′ word q
+      found = ready-found R h
+
+      off-loose : Apart m′ loose
+      off-loose = rw (e, ef) (apart-sym (without-apart (freeOf net) m′))
+
+      chosen-off : Apart m′ (found .chosen)
+      chosen-off = apart-sub off-loose (found .inside)
+
       agrees : (w : ℕ) → Held s v w m y r → On (bit (without m (2 ^ x))) (bit word) (bit w)
       agrees w g k i =
           let c = rw (sym mask-is) at i in
-          ap (λ (z : ℕ). bit z k) (h .is)
-          ∙ bit-plus (apart-sub d (h .inside)) k
-          ∙ or-none (bit y′ k) (bit (h .chosen) k) (off k c)
+          ap (λ (z : ℕ). bit z k) (found .is)
+          ∙ bit-plus (apart-sym (apart-sub (apart-sym chosen-off) (freed-sub F (R .valued)))) k
+          ∙ or-none (bit y′ k) (bit (found .chosen) k) (bits-apart chosen-off k c)
           ∙ still-same w (g .same) k c
-        where
-          off : (k : ℕ) → bit m′ k ≡ true → bit (h .chosen) k ≡ false
-          off k c = bits-apart (apart-sub (apart-sym (without-apart opens m′)) (rw e at (h .inside))) k c
 
 -- ---- the start and the end
 
-module _ {s : List ℕ} {opens mask values : ℕ} {u : List ℕ} {cu : ℕ} {o : List ℕ} {co : ℕ} (R : Ready s opens mask values u cu o co) where
-  pub held-yes : {loose w word r : ℕ} → Met s (last s) 1 loose w word r → Held s 1 word opens word r
-  held-yes {r = r} h = record {
-    same = λ k e. refl;
-    explains = h .explains;
-    inside = reason-free R (h .explains);
-  }
+module _ {s net : List ℕ} {mask values : ℕ} {u : List ℕ} {cu : ℕ} {o : List ℕ} {co : ℕ} (R : Ready s net mask values u cu o co)
+    {f loose m w : ℕ} (ef : f ≡ freeOf net) (el : loose ≡ without f mask) (M : Made mask values m w) where
+  start-loose : loose ≡ without (freeOf net) mask
+  start-loose = rw ef at el
 
-  pub held-no : {loose w r : ℕ} → loose ≡ without opens mask → w ≡ values → Missed s (last s) 1 loose w r → Held s 0 values mask values r
-  unfolding val
-  held-no e ew h = record {
-    same = λ k i. refl;
-    explains = rw ew at (h .explains);
-    inside = reason-inside R (h .explains) (rw e at (h .apart));
-  }
+  start-values : w ≡ values
+  start-values = made-same M (R .valued)
 
-  -- the word that was found has free variables only
-  pub word-free : {loose w word r : ℕ} → loose ≡ without opens mask → w ≡ values → Met s (last s) 1 loose w word r → Sub word opens
-  word-free {word = word} e ew h =
-      let i = rw e at (h .inside) in
-      let d : values + h .chosen ≡ word = ap (λ (x : ℕ). x + h .chosen) (sym ew) ∙ sym (h .is) in
-      rw (sym d, sym (or-sum (apart-sub (apart-sym (apart-sub (without-apart opens mask) (R .valued))) i)))
-      (or-sub (sub-trans (R .valued) (R .entered)) (sub-trans i (without-sub opens mask)))
+  -- the cube that WHY starts from, with the tables that the search left
+  ready-from : {n y : ℕ} {u1 : List ℕ} {c1 : ℕ} {o1 : List ℕ} {d1 : ℕ} → Sub n (freeOf net) → Sub y n
+      → Both.TablesGrown (formulaAt net) (framesOf net) u cu o co u1 c1 o1 d1 → Ready s net n y u1 c1 o1 d1
+  ready-from i j k = record { checked = R .checked; net-of = R .net-of; entered = i; valued = j; tables = ready-grown R k .tables }
 
-  -- the cube m, y that WHY starts from, with the tables that the search left
-  pub ready-from : {m y : ℕ} {u1 : List ℕ} {c1 : ℕ} {o1 : List ℕ} {d1 : ℕ} → Sub m opens → Sub y m → TablesGrown s u cu o co u1 c1 o1 d1 → Ready s opens m y u1 c1 o1 d1
-  ready-from i j k = record { ordered = R .ordered; some = R .some; few = R .few; opens = R .opens; entered = i; valued = j; tables = k .tables }
+  -- a yes: the free variables, with the word that was found
+  module _ {word r n y : ℕ} (h : Found (formulaAt net (framesOf net - 1)) (val 2) loose w word r) (N : Made f word n y) where
+    found-word : y ≡ word
+    found-word = made-same N (rw ef (word-free R start-loose start-values (ready-found R h)))
 
-  pub why-yes : {word m : ℕ} → ask 32 (root s) mask values ≡ yes word → m ≡ reduce 32 (root s) word (val 1) 32 opens → Same (why 32 (root s) mask values) true m
-  unfolding why startMask startWord val
-  why-yes e h = record { holds = rw e; word = rw (e, h, R .opens) }
+    pub ready-yes : {u1 : List ℕ} {c1 : ℕ} {o1 : List ℕ} {d1 : ℕ} → Both.TablesGrown (formulaAt net) (framesOf net) u cu o co u1 c1 o1 d1 → Ready s net n y u1 c1 o1 d1
+    ready-yes k = ready-from (rw (N .mask, ef) (sub-refl (freeOf net))) (made-sub N) k
 
-  pub why-no : {m : ℕ} → ask 32 (root s) mask values ≡ Question.no → m ≡ reduce 32 (root s) values (val 0) 32 mask → Same (why 32 (root s) mask values) false m
-  unfolding why startMask startWord val
-  why-no e h = record { holds = rw e; word = rw (e, h) }
+    pub held-yes : Held s 2 y n y r
+    held-yes = record {
+      same = λ k e. refl;
+      explains = rw found-word (ready-found R h .explains);
+      inside = rw (N .mask, ef) (reason-free R (ready-found R h .explains));
+    }
+
+    pub why-yes : {m′ : ℕ} → m′ ≡ reduce 32 (root s) y (val 2) 32 n → Same (why 32 (root s) mask values) true m′
+    unfolding why startMask startWord val
+    why-yes q =
+        let e = ask-found R start-loose start-values (ready-found R h) in
+        record { holds = rw e; word = rw (e, q, found-word, N .mask, ef, R .net-of .opens) }
+
+  -- a no: the entries
+  module _ {r : ℕ} (h : Lost (formulaAt net (framesOf net - 1)) (val 2) loose w r) where
+    pub ready-no : {u1 : List ℕ} {c1 : ℕ} {o1 : List ℕ} {d1 : ℕ} → Both.TablesGrown (formulaAt net) (framesOf net) u cu o co u1 c1 o1 d1 → Ready s net m w u1 c1 o1 d1
+    ready-no k = ready-from (rw (M .mask) (R .entered)) (made-sub M) k
+
+    pub held-no : Held s 1 w m w r
+    unfolding val
+    held-no = record {
+      same = λ k e. refl;
+      explains = ready-lost R h .explains;
+      inside = rw (M .mask) (reason-inside R (ready-lost R h .explains) (rw start-loose at (h .apart)));
+    }
+
+    pub why-no : {m′ : ℕ} → m′ ≡ reduce 32 (root s) w (val 1) 32 m → Same (why 32 (root s) mask values) false m′
+    unfolding why startMask startWord val
+    why-no q =
+        let e = ask-lost R start-loose start-values (ready-lost R h) in
+        record { holds = rw e; word = rw (e, q, start-values, M .mask) }
 
 -- ---- the loop over the variables: after those from x on, m, y with the reason r are left of the start m₀, w
 
-pub record Reducing (s : List ℕ) (opens v m₀ w : ℕ) (u₀ : List ℕ) (cu₀ : ℕ) (o₀ : List ℕ) (co₀ x m y r : ℕ) (u : List ℕ) (cu : ℕ) (o : List ℕ) (co : ℕ) : Type 0 where
-  pub low : x ≤ 32
+pub record Reducing (s net : List ℕ) (v m₀ w : ℕ) (u₀ : List ℕ) (cu₀ : ℕ) (o₀ : List ℕ) (co₀ x m y r : ℕ) (u : List ℕ) (cu : ℕ) (o : List ℕ) (co : ℕ) : Type 0 where
   pub turned : reduce 32 (root s) w (val v) 32 m₀ ≡ reduce 32 (root s) w (val v) x m
   pub held : Held s v w m y r
-  pub ready : Ready s opens m y u cu o co
+  pub ready : Ready s net m y u cu o co
   pub kept : TablesGrown s u₀ cu₀ o₀ co₀ u cu o co
 
-pub reducing-start : {s : List ℕ} {opens v m w r : ℕ} {u : List ℕ} {cu : ℕ} {o : List ℕ} {co : ℕ} → Ready s opens m w u cu o co → Held s v w m w r → Reducing s opens v m w u cu o co 32 m w r u cu o co
-reducing-start R h = record { low = omega arith; turned = refl; held = h; ready = R; kept = tables-refl (R .tables) }
+-- for every sheet whose net it is
+pub record Turning (net : List ℕ) (v m₀ w r₀ : ℕ) (u₀ : List ℕ) (cu₀ : ℕ) (o₀ : List ℕ) (co₀ x m y r : ℕ) (now cells wants u : List ℕ) (cu : ℕ) (o : List ℕ) (co : ℕ) : Type 0 where
+  pub low : x ≤ 32
+  pub same : now ≡ net
+  pub cells-are : cells ≡ blank
+  pub long : length wants ≡ scratchWords
+  pub each : (s : List ℕ) → Ready s net m₀ w u₀ cu₀ o₀ co₀ → Held s v w m₀ w r₀ → Reducing s net v m₀ w u₀ cu₀ o₀ co₀ x m y r u cu o co
 
-module _ {s : List ℕ} {opens v m₀ w : ℕ} {u₀ : List ℕ} {cu₀ : ℕ} {o₀ : List ℕ} {co₀ x m y r : ℕ} {u : List ℕ} {cu : ℕ} {o : List ℕ} {co : ℕ}
-    (I : Reducing s opens v m₀ w u₀ cu₀ o₀ co₀ x m y r u cu o co) where
-  pub reducing-next : {m′ y′ r′ : ℕ} {u' : List ℕ} {cu' : ℕ} {o' : List ℕ} {co' : ℕ} → 0 < x → Turned s v m y r (x - 1) m′ y′ r′ → TablesGrown s u cu o co u' cu' o' co'
-      → Reducing s opens v m₀ w u₀ cu₀ o₀ co₀ (x - 1) m′ y′ r′ u' cu' o' co'
-  reducing-next {m′} {y′} {r′} h t k = record {
+pub turning-start : {net : List ℕ} {v m w r : ℕ} {cells wants u : List ℕ} {cu : ℕ} {o : List ℕ} {co : ℕ} → cells ≡ blank → length wants ≡ scratchWords
+    → Turning net v m w r u cu o co 32 m w r net cells wants u cu o co
+turning-start c l = record {
+  low = omega arith;
+  same = refl;
+  cells-are = c;
+  long = l;
+  each = λ s R h. record { turned = refl; held = h; ready = R; kept = tables-same (R .tables) };
+}
+
+module _ {net : List ℕ} {v m₀ w r₀ : ℕ} {u₀ : List ℕ} {cu₀ : ℕ} {o₀ : List ℕ} {co₀ x m y r : ℕ} {now cells wants u : List ℕ} {cu : ℕ} {o : List ℕ} {co : ℕ}
+    (I : Turning net v m₀ w r₀ u₀ cu₀ o₀ co₀ x m y r now cells wants u cu o co) where
+  pub turning-next : {m′ y′ r′ : ℕ} {now′ cells′ wants′ u' : List ℕ} {cu' : ℕ} {o' : List ℕ} {co' : ℕ} → 0 < x
+      → now′ ≡ now → cells′ ≡ cells → length wants′ ≡ length wants
+      → ((s : List ℕ) → Ready s now m y u cu o co → Turned s v m y r (x - 1) m′ y′ r′ × TablesGrown s u cu o co u' cu' o' co')
+      → Turning net v m₀ w r₀ u₀ cu₀ o₀ co₀ (x - 1) m′ y′ r′ now′ cells′ wants′ u' cu' o' co'
+  turning-next {m′} {y′} {r′} {u' = u'} {cu' = cu'} {o' = o'} {co' = co'} p e c l t = record {
     low = omega (arith, I .low);
-    turned = I .turned ∙ ap (λ (z : ℕ). reduce 32 (root s) w (val v) z m) one ∙ t .step w (I .held);
-    held = t .held w (I .held);
-    ready = record {
-      ordered = I .ready .ordered;
-      some = I .ready .some;
-      few = I .ready .few;
-      opens = I .ready .opens;
-      entered = sub-trans (t .less) (I .ready .entered);
-      valued = t .valued (I .ready .valued);
-      tables = k .tables;
-    };
-    kept = tables-trans (I .kept) k;
+    same = e ∙ I .same;
+    cells-are = c ∙ I .cells-are;
+    long = l ∙ I .long;
+    each = λ s R h. step s (I .each s R h) (rw (I .same) at (t s));
   }
     where
       one : x ≡ suc (x - 1)
       one = omega arith
 
-  pub reducing-end : x ≡ 0 → m ≡ reduce 32 (root s) w (val v) 32 m₀
+      step : (s : List ℕ) → Reducing s net v m₀ w u₀ cu₀ o₀ co₀ x m y r u cu o co
+          → (Ready s net m y u cu o co → Turned s v m y r (x - 1) m′ y′ r′ × TablesGrown s u cu o co u' cu' o' co')
+          → Reducing s net v m₀ w u₀ cu₀ o₀ co₀ (x - 1) m′ y′ r′ u' cu' o' co'
+      step s J g =
+          let T = g (J .ready) in
+          record {
+            turned = J .turned ∙ ap (λ (z : ℕ). reduce 32 (root s) w (val v) z m) one ∙ T .0 .step w (J .held);
+            held = T .0 .held w (J .held);
+            ready = record {
+              checked = J .ready .checked;
+              net-of = J .ready .net-of;
+              entered = sub-trans (T .0 .less) (J .ready .entered);
+              valued = T .0 .valued (J .ready .valued);
+              tables = T .1 .tables;
+            };
+            kept = tables-then (J .kept) (T .1);
+          }
+
+  pub turning-end : x ≡ 0 → (s : List ℕ) → Ready s net m₀ w u₀ cu₀ o₀ co₀ → Held s v w m₀ w r₀
+      → (m ≡ reduce 32 (root s) w (val v) 32 m₀) × TablesGrown s u₀ cu₀ o₀ co₀ u cu o co
   unfolding reduce
-  reducing-end e = sym (I .turned ∙ ap (λ (z : ℕ). reduce 32 (root s) w (val v) z m) e)
+  turning-end e s R h =
+      let J = I .each s R h in
+      (sym (J .turned ∙ ap (λ (z : ℕ). reduce 32 (root s) w (val v) z m) e), J .kept)

@@ -1,9 +1,7 @@
-// QSMA of Bonacina, Graham-Lengrand and Vauthier (source document 000) for Booleans: the verdict of a checked sheet, the smallest
-// setting that makes it hold, and the reason behind it.
-pub mod judge;
-pub mod reason;
-pub mod search;
-pub mod verdict;
+// ASK and WHY: questions about the last frame of a sheet, put to the search.
+mod question;
+mod reason;
+mod verdict;
 
 pub use reason::why;
 pub use verdict::Answered;

@@ -1,181 +1,174 @@
 // WHY: document 01's reason behind a verdict, from which no variable can be dropped.
-use crate::search::solve;
+use crate::question::solve;
 use crate::verdict::Answered;
-use cube::Cube;
+use cube::Cube64;
+use records::Counts;
+use words::w64;
 ghost use mathlib.Core.Path.{_≡_};
-ghost use Prim.Native.Nat.{ℕ, _+_, _<_};
+ghost use mathlib.Core.List.{List};
+ghost use Prim.Native.Nat.{ℕ, _<_};
+ghost use lib.ListN.{length};
 ghost use Rattle.formula.specs.Why.{why, reduce};
+ghost use Rattle.net.specs.Layout.{val};
 ghost use Rattle.solver.specs.Contract.{root, Ready, TablesGrown, Same};
-ghost use Rattle.solver.specs.Frames.{val};
+ghost use Rattle.solver.specs.Question.{blank, scratchWords};
 ghost use Rattle.solver.specs.Why.{Held, Turned};
 
 // What is left of a reason's start, and a reason inside it that a proof has shown.
 struct Left {
-    cube: Cube,
-    reason: u32,
-    under: usize,
-    over: usize,
+    cube: Cube64,
+    reason: u64,
+    kept: Counts,
 }
 
 // One variable: it goes if what is left without it still gives the last frame the truth v. Outside the proved reason it goes without a search.
 fn dropped(
-    sheet: &[u8],
+    net: &mut [u64],
     v: u8,
-    free: u32,
-    cube: Cube,
-    reason: u32,
+    cube: Cube64,
+    reason: u64,
     variable: u8,
+    cells: &mut [u64],
+    wants: &mut [u64],
     under: &mut [u32],
-    nu: usize,
     over: &mut [u32],
-    no: usize,
+    kept: Counts,
 ) -> Left
-    requires { ⌜ (v < 2) × (variable < 32) ⌝ }
-    requires { ⌜ Ready (now sheet) free (cube .mask) (cube .values) (now under) nu (now over) no ⌝ }
-    ensures { λ r. ⌜ Turned (now (sheet .entry)) v (cube .mask) (cube .values) reason variable (r .cube .mask) (r .cube .values) (r .reason) ⌝ }
-    ensures { λ r. ⌜ TablesGrown (now (sheet .entry)) (now (under .entry)) nu (now (over .entry)) no (now (under .exit)) (r .under) (now (over .exit)) (r .over) ⌝ }
+    requires { ⌜ (0 < v) × (v < 3) × (variable < 64) × (now cells ≡ blank) × (length (now wants) ≡ scratchWords) ⌝ }
+    requires { ⌜ ((s : List ℕ) × Ready s (now net) (cube .mask) (cube .values) (now under) (kept .under) (now over) (kept .over)) ⌝ }
+    ensures { λ r. ⌜ (now (net .exit) ≡ now (net .entry)) × (now (cells .exit) ≡ now (cells .entry)) × (length (now (wants .exit)) ≡ length (now (wants .entry))) ⌝ }
+    ensures { λ r. ⌜ ((s : List ℕ) → Ready s (now (net .entry)) (cube .mask) (cube .values) (now (under .entry)) (kept .under) (now (over .entry)) (kept .over) → Turned s v (cube .mask) (cube .values) reason variable (r .cube .mask) (r .cube .values) (r .reason) × TablesGrown s (now (under .entry)) (kept .under) (now (over .entry)) (kept .over) (now (under .exit)) (r .kept .under) (now (over .exit)) (r .kept .over)) ⌝ }
 {
-    if !words::w32::has(cube.mask, variable) {
-        return Left {
-            cube,
-            reason,
-            under: nu,
-            over: no,
-        };
+    if !w64::has(cube.mask, variable) {
+        return Left { cube, reason, kept };
     }
     let less = cube.free(variable);
-    if !words::w32::has(reason, variable) {
+    if !w64::has(reason, variable) {
         return Left {
             cube: less,
             reason,
-            under: nu,
-            over: no,
+            kept,
         };
     }
-    let last = sheet.len() / 4 - 1;
-    let s = solve(
-        sheet,
-        last,
-        1 - v,
-        words::w32::without(free, less.mask),
-        less,
-        under,
-        nu,
-        over,
-        no,
-    );
+    let loose = w64::without(net::free(&net[..]), less.mask);
+    let s = solve(net, 3 - v, loose, less, cells, wants, under, over, kept);
+    let after = s.kept;
     if s.found {
         return Left {
             cube,
             reason,
-            under: s.under,
-            over: s.over,
+            kept: after,
         };
     }
     Left {
         cube: less,
         reason: s.reason,
-        under: s.under,
-        over: s.over,
+        kept: after,
     }
 }
 
 // What is left of the cube when every variable, from the last to the first, was tried.
 fn reduced(
-    sheet: &[u8],
+    net: &mut [u64],
     v: u8,
-    free: u32,
-    cube: Cube,
-    reason: u32,
+    cube: Cube64,
+    reason: u64,
+    cells: &mut [u64],
+    wants: &mut [u64],
     under: &mut [u32],
-    nu: usize,
     over: &mut [u32],
-    no: usize,
+    kept: Counts,
 ) -> Left
-    requires { ⌜ v < 2 ⌝ }
-    requires { ⌜ Ready (now sheet) free (cube .mask) (cube .values) (now under) nu (now over) no ⌝ }
-    requires { ⌜ Held (now sheet) v (cube .values) (cube .mask) (cube .values) reason ⌝ }
-    ensures { λ r. ⌜ r .cube .mask ≡ reduce 32 (root (now (sheet .entry))) (cube .values) (val v) 32 (cube .mask) ⌝ }
-    ensures { λ r. ⌜ TablesGrown (now (sheet .entry)) (now (under .entry)) nu (now (over .entry)) no (now (under .exit)) (r .under) (now (over .exit)) (r .over) ⌝ }
+    requires { ⌜ (0 < v) × (v < 3) × (now cells ≡ blank) × (length (now wants) ≡ scratchWords) ⌝ }
+    requires { ⌜ ((s : List ℕ) × Ready s (now net) (cube .mask) (cube .values) (now under) (kept .under) (now over) (kept .over) × Held s v (cube .values) (cube .mask) (cube .values) reason) ⌝ }
+    ensures { λ r. ⌜ now (net .exit) ≡ now (net .entry) ⌝ }
+    ensures { λ r. ⌜ ((s : List ℕ) → Ready s (now (net .entry)) (cube .mask) (cube .values) (now (under .entry)) (kept .under) (now (over .entry)) (kept .over) → Held s v (cube .values) (cube .mask) (cube .values) reason → (r .cube .mask ≡ reduce 32 (root s) (cube .values) (val v) 32 (cube .mask)) × TablesGrown s (now (under .entry)) (kept .under) (now (over .entry)) (kept .over) (now (under .exit)) (r .kept .under) (now (over .exit)) (r .kept .over)) ⌝ }
 {
-    let mut left = Left {
-        cube,
-        reason,
-        under: nu,
-        over: no,
-    };
+    let mut left = Left { cube, reason, kept };
     let mut x: u8 = 32;
     while x > 0 {
         x -= 1;
+        let last = left.cube;
+        let counts = left.kept;
         left = dropped(
-            sheet,
+            net,
             v,
-            free,
-            left.cube,
+            last,
             left.reason,
             x,
+            cells,
+            wants,
             under,
-            left.under,
             over,
-            left.over,
+            counts,
         );
     }
     left
 }
 
-// The sheet's free variables, and those entered with their values.
+// The variables entered, and their values.
 pub fn why(
-    sheet: &[u8],
-    free: u32,
-    mask: u32,
-    values: u32,
+    net: &mut [u64],
+    mask: u64,
+    values: u64,
     under: &mut [u32],
-    nu: usize,
     over: &mut [u32],
-    no: usize,
+    kept: Counts,
 ) -> Answered
-    requires { ⌜ Ready (now sheet) free mask values (now under) nu (now over) no ⌝ }
-    ensures { λ r. ⌜ Same (why 32 (root (now (sheet .entry))) mask values) (r .holds) (r .word) ⌝ }
-    ensures { λ r. ⌜ TablesGrown (now (sheet .entry)) (now (under .entry)) nu (now (over .entry)) no (now (under .exit)) (r .under) (now (over .exit)) (r .over) ⌝ }
+    requires { ⌜ ((s : List ℕ) × Ready s (now net) mask values (now under) (kept .under) (now over) (kept .over)) ⌝ }
+    ensures { λ r. ⌜ now (net .exit) ≡ now (net .entry) ⌝ }
+    ensures { λ r. ⌜ ((s : List ℕ) → Ready s (now (net .entry)) mask values (now (under .entry)) (kept .under) (now (over .entry)) (kept .over) → Same (why 32 (root s) mask values) (r .holds) (r .word) × TablesGrown s (now (under .entry)) (kept .under) (now (over .entry)) (kept .over) (now (under .exit)) (r .kept .under) (now (over .exit)) (r .kept .over)) ⌝ }
 {
-    let last = sheet.len() / 4 - 1;
-    let loose = words::w32::without(free, mask);
-    let entered = Cube::of(mask, values);
-    let s = solve(sheet, last, 1, loose, entered, under, nu, over, no);
+    let mut cells = [0u64; 402];
+    let mut wants = [0u64; 402];
+    let free = net::free(&net[..]);
+    let entered = Cube64::of(mask, values);
+    let s = solve(
+        net,
+        2,
+        w64::without(free, mask),
+        entered,
+        &mut cells,
+        &mut wants,
+        under,
+        over,
+        kept,
+    );
+    let after = s.kept;
     if s.found {
         let left = reduced(
-            sheet,
-            1,
-            free,
-            Cube::of(free, s.word),
+            net,
+            2,
+            Cube64::of(free, s.word),
             s.reason,
+            &mut cells,
+            &mut wants,
             under,
-            s.under,
             over,
-            s.over,
+            after,
         );
+        let end = left.kept;
         return Answered {
             holds: true,
             word: left.cube.mask,
-            under: left.under,
-            over: left.over,
+            kept: end,
         };
     }
     let left = reduced(
-        sheet,
-        0,
-        free,
+        net,
+        1,
         entered,
         s.reason,
+        &mut cells,
+        &mut wants,
         under,
-        s.under,
         over,
-        s.over,
+        after,
     );
+    let end = left.kept;
     Answered {
         holds: false,
         word: left.cube.mask,
-        under: left.under,
-        over: left.over,
+        kept: end,
     }
 }

@@ -1,8 +1,12 @@
 // ASK: whether the free variables that are not entered can be chosen so that the sheet holds, and the smallest choice.
-use crate::search::solve;
-use cube::Cube;
+use crate::question::solve;
+use cube::Cube64;
+use records::Counts;
 use records::Found;
-ghost use Prim.Native.Nat.{_*_, _≤_};
+use words::w64;
+ghost use mathlib.Core.Path.{_≡_};
+ghost use mathlib.Core.List.{List};
+ghost use Prim.Native.Nat.{ℕ, _*_, _%_, _≤_};
 ghost use lib.ListN.{length};
 ghost use Rattle.formula.specs.Ask.{ask};
 ghost use Rattle.solver.specs.Contract.{root, Ready, TablesGrown, Promised, Same};
@@ -11,13 +15,19 @@ ghost use Rattle.solver.specs.Ask.{Ensured};
 // A verdict and its word, and how many records each table then holds.
 pub struct Answered {
     pub holds: bool,
-    pub word: u32,
-    pub under: usize,
-    pub over: usize,
+    pub word: u64,
+    pub kept: Counts,
+}
+
+// The part of a word that records speak of.
+fn low(word: u64) -> u32
+    ensures { λ r. ⌜ r ≡ word % 4294967296 ⌝ }
+{
+    (word % 4294967296) as u32
 }
 
 // Makes sure of a record of the frame that speaks of assigned variables only and agrees with the setting: the reason is put where none does.
-pub fn ensure(
+fn ensure(
     table: &mut [u32],
     count: usize,
     frame: u32,
@@ -35,49 +45,67 @@ pub fn ensure(
     records::put(table, count, frame, reason, setting & reason)
 }
 
-// The sheet's free variables, and those entered with their values.
+// The variables entered, and their values.
 pub fn ask(
-    sheet: &[u8],
-    free: u32,
-    mask: u32,
-    values: u32,
+    net: &mut [u64],
+    mask: u64,
+    values: u64,
     under: &mut [u32],
-    nu: usize,
     over: &mut [u32],
-    no: usize,
+    kept: Counts,
 ) -> Answered
-    requires { ⌜ Ready (now sheet) free mask values (now under) nu (now over) no ⌝ }
-    ensures { λ r. ⌜ Same (ask 32 (root (now (sheet .entry))) mask values) (r .holds) (r .word) ⌝ }
-    ensures { λ r. ⌜ TablesGrown (now (sheet .entry)) (now (under .entry)) nu (now (over .entry)) no (now (under .exit)) (r .under) (now (over .exit)) (r .over) ⌝ }
-    ensures { λ r. ⌜ Promised (now (sheet .entry)) mask values (ask 32 (root (now (sheet .entry))) mask values) (now (under .exit)) (r .under) (now (over .exit)) (r .over) ⌝ }
+    requires { ⌜ ((s : List ℕ) × Ready s (now net) mask values (now under) (kept .under) (now over) (kept .over)) ⌝ }
+    ensures { λ r. ⌜ now (net .exit) ≡ now (net .entry) ⌝ }
+    ensures { λ r. ⌜ ((s : List ℕ) → Ready s (now (net .entry)) mask values (now (under .entry)) (kept .under) (now (over .entry)) (kept .over) → Same (ask 32 (root s) mask values) (r .holds) (r .word) × TablesGrown s (now (under .entry)) (kept .under) (now (over .entry)) (kept .over) (now (under .exit)) (r .kept .under) (now (over .exit)) (r .kept .over) × Promised s mask values (ask 32 (root s) mask values) (now (under .exit)) (r .kept .under) (now (over .exit)) (r .kept .over)) ⌝ }
 {
-    let last = sheet.len() / 4 - 1;
-    let loose = words::w32::without(free, mask);
+    let mut cells = [0u64; 402];
+    let mut wants = [0u64; 402];
+    let free = net::free(&net[..]);
+    let last = net::frames(&net[..]) - 1;
     let s = solve(
-        sheet,
-        last,
-        1,
-        loose,
-        Cube::of(mask, values),
+        net,
+        2,
+        w64::without(free, mask),
+        Cube64::of(mask, values),
+        &mut cells,
+        &mut wants,
         under,
-        nu,
         over,
-        no,
+        kept,
     );
+    let after = s.kept;
     if s.found {
-        let n = ensure(under, s.under, last as u32, free, s.word, s.reason);
+        let n = ensure(
+            under,
+            after.under,
+            last as u32,
+            low(free),
+            low(s.word),
+            low(s.reason),
+        );
         return Answered {
             holds: true,
             word: s.word,
-            under: n,
-            over: s.over,
+            kept: Counts {
+                under: n,
+                over: after.over,
+            },
         };
     }
-    let n = ensure(over, s.over, last as u32, mask, values, s.reason);
+    let n = ensure(
+        over,
+        after.over,
+        last as u32,
+        low(mask),
+        low(values),
+        low(s.reason),
+    );
     Answered {
         holds: false,
         word: 0,
-        under: s.under,
-        over: n,
+        kept: Counts {
+            under: after.under,
+            over: n,
+        },
     }
 }

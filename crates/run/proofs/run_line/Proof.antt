@@ -32,10 +32,10 @@ shared-slice-read-step-lent-4 : tie.Need-shared-slice-read-step-lent-4
 shared-slice-read-step-lent-4 c = search needs
 
 step-lent-requires : tie.Need-step-lent-requires
-step-lent-requires c κs = search needs
+step-lent-requires c κs = c .before .before .before .before .before .before .before .before .before .before .before .before .pre .0
 
 write-requires : tie.Need-write-requires
-write-requires c κs = omega (arith, c .before .before .before .before .before .before .before .before .before .before .before .before .before .before .before .before .before .before .pre .1 .1)
+write-requires c κs = omega (arith, c .before .before .before .before .before .before .before .before .before .before .before .before .before .before .before .before .before .before .before .before .before .pre .1 .1)
 
 same-length : tie.Need-same-length
 same-length c = search needs
@@ -46,14 +46,20 @@ same-length-2 c = search needs
 same-length-3 : tie.Need-same-length-3
 same-length-3 c = search needs
 
+same-length-4 : tie.Need-same-length-4
+same-length-4 c = search needs
+
 returns : tie.Need-returns
 returns c =
-    let r = c .before .before .before .before .before .before .before .before .before .before .step-lent .result .answer in
-    record {
-      answer = record { number = r .number; v = r .v; word = r .word };
-      step = c .before .before .before .before .before .before .before .before .before .before .step-lent .ensures;
-      put = c .before .before .before .write .ensures;
-    }
+    let t = c .before .before .before .before .before .before .before .before .before .before .before .before .step-lent in
+    let a = t .result .answer in (
+      t .ensures .0,
+      λ s d. record {
+        answer = record { number = a .number; v = a .v; word = a .word };
+        step = t .ensures .1 s d;
+        put = c .before .before .before .write .ensures;
+      },
+    )
 
 pub run-line-spec : {M : Type 1} → statement M
 run-line-spec =
@@ -73,4 +79,5 @@ run-line-spec =
     same-length
     same-length-2
     same-length-3
+    same-length-4
     returns)

@@ -1,18 +1,27 @@
 -- `qdimacs::build::contingent` meets its contract: clauses with opposites are always true, and the solver's answer tells the rest. Assumes nothing.
 use borrow.Author.Needs.{needs}
 use mathlib.Core.Path.{refl, sym, _∙_}
-use Rattle.qdimacs.specs.MatrixAsked.{judged-true, matrix-ready, judged-asked}
+use Rattle.qdimacs.specs.MatrixAsked.{judged-true, matrix-checked, ready-none, judged-asked}
 use Rattle.qdimacs.proofs.build.contingent.Statement.{statement}
 use Rattle.qdimacs.proofs.build.contingent.Tie as tie
 
 all-opposed-requires : tie.Need-all-opposed-requires
-all-opposed-requires c κs = c .before .before .pre .codes-are
+all-opposed-requires c κs = search needs
 
 returns : tie.Need-returns
 returns c = judged-true (sym (c .before .all-opposed .ensures) ∙ c .if1 .taken) refl
 
 find-occurring-requires : tie.Need-find-occurring-requires
-find-occurring-requires c κs = c .before .before .before .before .pre .codes-are
+find-occurring-requires c κs = search needs
+
+cast-load : tie.Need-cast-load
+cast-load c = search needs
+
+slice-aggregate-load : tie.Need-slice-aggregate-load
+slice-aggregate-load c = search needs
+
+load-requires : tie.Need-load-requires
+load-requires c κs = (matrix-checked (c .before .before .before .before .before .before .before .pre) (c .before .before .find-occurring .ensures .0), record { is = refl })
 
 slice-aggregate-ask : tie.Need-slice-aggregate-ask
 slice-aggregate-ask c = search needs
@@ -20,14 +29,20 @@ slice-aggregate-ask c = search needs
 slice-aggregate-ask-2 : tie.Need-slice-aggregate-ask-2
 slice-aggregate-ask-2 c = search needs
 
+slice-aggregate-ask-3 : tie.Need-slice-aggregate-ask-3
+slice-aggregate-ask-3 c = search needs
+
 ask-requires : tie.Need-ask-requires
-ask-requires c κs = matrix-ready (c .before .before .before .before .before .before .before .pre) _ _ (c .before .before .find-occurring .ensures .0)
+ask-requires c κs =
+    let k = matrix-checked (c .before .before .before .before .before .before .before .before .before .before .before .before .pre) (c .before .before .before .before .before .before .before .find-occurring .ensures .0) in
+    (c .before .before .before .before .before .before .before .before .before .before .before .before .args .frames .now, ready-none _ _ k (c .before .before .before .before .load .ensures))
 
 returns-2 : tie.Need-returns-2
 returns-2 c =
-    judged-asked (c .before .before .before .before .before .before .before .before .before .before .pre)
-    (sym (c .before .before .before .before .before .before .before .all-opposed .ensures) ∙ c .before .before .before .before .before .before .if1 .left)
-    (c .before .before .ask .ensures .0)
+    let m = c .before .before .before .before .before .before .before .before .before .before .before .before .before .before .before .before .pre in
+    let k = matrix-checked m (c .before .before .before .before .before .before .before .before .before .before .before .find-occurring .ensures .0) in
+    let r = ready-none _ _ k (c .before .before .before .before .before .before .before .before .load .ensures) in
+    judged-asked m (sym (c .before .before .before .before .before .before .before .before .before .before .before .before .before .all-opposed .ensures) ∙ c .before .before .before .before .before .before .before .before .before .before .before .before .if1 .left) (c .before .before .before .ask .ensures .1 (c .before .before .before .before .before .before .before .before .before .before .before .before .before .before .before .before .args .frames .now) r .0)
 
 pub contingent-spec : {M : Type 1} → statement M
 contingent-spec =
@@ -36,7 +51,11 @@ contingent-spec =
     all-opposed-requires
     returns
     find-occurring-requires
+    cast-load
+    slice-aggregate-load
+    load-requires
     slice-aggregate-ask
     slice-aggregate-ask-2
+    slice-aggregate-ask-3
     ask-requires
     returns-2)

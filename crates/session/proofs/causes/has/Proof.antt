@@ -13,7 +13,7 @@ returns : tie.Need-returns
 returns c = search needs
 
 returns-2 : tie.Need-returns-2
-returns-2 c = sym (bit-high 32 _ (omega arith) (omega arith))
+returns-2 c = sym (bit-high 64 _ (omega arith) (omega arith))
 
 pub has-spec : {M : Type 1} → statement M
 has-spec = tie.close (tie.spec has-requires returns returns-2)

@@ -1,12 +1,14 @@
 -- `session::line::ask` meets its contract.
 use borrow.Author.Needs.{needs}
-use Rattle.session.specs.Sound.{sound-ready}
+use Rattle.session.specs.Sound.{net-ready}
 use Rattle.session.specs.StepLaws.{searched}
 use Rattle.session.proofs.line.ask.Statement.{statement}
 use Rattle.session.proofs.line.ask.Tie as tie
 
 ask-requires : tie.Need-ask-requires
-ask-requires c κs = sound-ready (c .before .before .before .before .before .pre)
+ask-requires c κs =
+    let p = c .before .before .before .before .before .before .before .pre in
+    (p .0, net-ready (p .1))
 
 recount-requires : tie.Need-recount-requires
 recount-requires c κs = search needs
@@ -20,12 +22,19 @@ same-length c = search needs
 same-length-2 : tie.Need-same-length-2
 same-length-2 c = search needs
 
+same-length-3 : tie.Need-same-length-3
+same-length-3 c = search needs
+
 returns : tie.Need-returns
 returns c =
-    let w = c .before .before .before .before .before .before .before .before .before .before .before .before .pre .words in
-    let e = c .before .before .before .before .before .before .ask .ensures in
-    let n = c .before .recount .ensures in
-    (searched (rw (w .mask-is, w .values-are) at (e .0)) (e .1 .0) n (c .tell-verdict .ensures), rw (n .under, n .over, ← w .mask-is, ← w .values-are) (e .1 .1))
+    let e = c .before .before .before .before .before .before .before .before .before .ask .ensures in
+    let n = c .before .recount .ensures in (
+      e .0,
+      λ s d.
+          let w = d .sound .words in
+          let f = e .1 s (net-ready d) in
+          (searched (rw (w .mask-is, w .values-are) at (f .0)) (f .1) n (c .tell-verdict .ensures), rw (n .under, n .over, ← w .mask-is, ← w .values-are) (f .2)),
+    )
 
 pub ask-spec : {M : Type 1} → statement M
 ask-spec =
@@ -36,4 +45,5 @@ ask-spec =
     tell-verdict-requires
     same-length
     same-length-2
+    same-length-3
     returns)

@@ -1,123 +1,141 @@
 -- `solver::reason::why` meets its contract: document 01's start for each verdict, and the fold. Assumes nothing.
 use native.Mathlib.Omega.{arith}
-use mathlib.Core.Path.{_≡_, refl, sym, _∙_}
-use Rattle.words.specs.Mask.{sub-refl}
-use Rattle.cube.specs.Cube.{made-same, made-sub}
-use Rattle.solver.specs.SearchLaws.{tables-trans}
-use Rattle.solver.specs.Ask.{ready-posed, ready-ground, ask-found, ask-missed}
-use Rattle.solver.specs.Why.{held-yes, held-no, why-yes, why-no, word-free, ready-from}
+use mathlib.Core.Path.{refl, _∙_}
 use borrow.Author.Needs.{needs}
+use Rattle.records.specs.Both.{tables-then}
+use Rattle.solver.specs.Why.{ready-yes, held-yes, why-yes, ready-no, held-no, why-no}
+use Rattle.solver.specs.Ask.{entered-asking, ready-grown}
 use Rattle.solver.proofs.reason.why.Statement.{statement}
 use Rattle.solver.proofs.reason.why.Tie as tie
 
-sub-last : tie.Need-sub-last
-sub-last c =
-    let pre° = c .before .before .before .pre in
-    omega (arith, pre° .some)
-
-without-requires : tie.Need-without-requires
-without-requires c κs = search needs
+free-requires : tie.Need-free-requires
+free-requires c κs = search needs
 
 of-requires : tie.Need-of-requires
 of-requires c κs = search needs
 
+without-requires : tie.Need-without-requires
+without-requires c κs = search needs
+
+slice-aggregate-solve : tie.Need-slice-aggregate-solve
+slice-aggregate-solve c = search needs
+
+slice-aggregate-solve-2 : tie.Need-slice-aggregate-solve-2
+slice-aggregate-solve-2 c = search needs
+
 solve-requires : tie.Need-solve-requires
 solve-requires c κs =
-    let pre° = c .before .before .before .before .before .before .before .pre in
-    let without° = c .before .before .before .without in
-    let of° = c .before .before .of in
-    (ready-posed pre° 1 (omega arith) (without° .ensures) (of° .ensures .mask) (made-same (of° .ensures) (pre° .valued)), ready-ground pre°)
+    let pre° = c .before .before .before .before .before .before .before .before .before .before .before .before .pre in
+    let free° = c .before .before .before .before .before .before .before .free in
+    let without° = c .before .before .before .before .without in
+    let of° = c .before .before .before .before .before .before .of in
+    (pre° .0, entered-asking (pre° .1) 2 (omega arith) (omega arith) (free° .ensures) (without° .ensures) (of° .ensures) refl refl)
 
 of-requires-2 : tie.Need-of-requires-2
 of-requires-2 c κs = search needs
 
+slice-aggregate-reduced : tie.Need-slice-aggregate-reduced
+slice-aggregate-reduced c = search needs
+
+slice-aggregate-reduced-2 : tie.Need-slice-aggregate-reduced-2
+slice-aggregate-reduced-2 c = search needs
+
 reduced-requires : tie.Need-reduced-requires
 reduced-requires c κs =
-    let if1° = c .before .before .before .if1 in
-    let solve° = c .before .before .before .before .before .before .before .before .solve in
-    let of2° = c .before .before .of2 in
-    let pre° = c .before .before .before .before .before .before .before .before .before .before .before .before .before .before .before .before .pre in
-    let without° = c .before .before .before .before .before .before .before .before .before .before .before .before .without in
-    let of° = c .before .before .before .before .before .before .before .before .before .before .before .of in
-    let h = rw (if1° .taken) at (solve° .ensures .0) in
-    let y = made-same (of2° .ensures) (word-free pre° (without° .ensures) (made-same (of° .ensures) (pre° .valued)) h) in
-    (omega arith, (ready-from pre° (rw (of2° .ensures .mask) (sub-refl _)) (made-sub (of2° .ensures)) (solve° .ensures .1), rw (of2° .ensures .mask, y) (held-yes pre° h)))
+    let solve° = c .before .before .before .before .before .before .before .before .before .before .before .before .before .before .before .before .solve in
+    let pre° = c .before .before .before .before .before .before .before .before .before .before .before .before .before .before .before .before .before .before .before .before .before .before .before .before .before .before .before .before .before .pre in
+    let free° = c .before .before .before .before .before .before .before .before .before .before .before .before .before .before .before .before .before .before .before .before .before .before .before .before .free in
+    let without° = c .before .before .before .before .before .before .before .before .before .before .before .before .before .before .before .before .before .before .before .before .before .without in
+    let of° = c .before .before .before .before .before .before .before .before .before .before .before .before .before .before .before .before .before .before .before .before .before .before .before .of in
+    let if1° = c .before .before .before .before .before .before .if1 in
+    let of2° = c .before .before .before .before .of2 in
+    ((omega arith, omega arith, solve° .ensures .1 .1 .1, solve° .ensures .1 .1 .2), (pre° .0, rw (solve° .ensures .1 .1 .0) (ready-yes (pre° .1) (free° .ensures) (without° .ensures) (of° .ensures) (rw (if1° .taken) at (solve° .ensures .0)) (of2° .ensures) (solve° .ensures .1 .0)), held-yes (pre° .1) (free° .ensures) (without° .ensures) (of° .ensures) (rw (if1° .taken) at (solve° .ensures .0)) (of2° .ensures)))
 
 same-length : tie.Need-same-length
-same-length c =
-    let solve° = c .before .before .before .before .before .before .before .before .before .before .before .before .before .solve in
-    let reduced° = c .before .before .before .before .reduced in
-    tables-trans (solve° .ensures .1) (reduced° .ensures .1) .under .same
+same-length c = search needs
 
 same-length-2 : tie.Need-same-length-2
-same-length-2 c =
-    let solve° = c .before .before .before .before .before .before .before .before .before .before .before .before .before .solve in
-    let reduced° = c .before .before .before .before .reduced in
-    tables-trans (solve° .ensures .1) (reduced° .ensures .1) .over .same
+same-length-2 c = search needs
+
+same-length-3 : tie.Need-same-length-3
+same-length-3 c = search needs
 
 returns : tie.Need-returns
 returns c =
-    let if1° = c .before .before .before .before .before .before .before .before .if1 in
-    let solve° = c .before .before .before .before .before .before .before .before .before .before .before .before .before .solve in
-    let of° = c .before .before .before .before .before .before .before .before .before .before .before .before .before .before .before .before .of in
-    let pre° = c .before .before .before .before .before .before .before .before .before .before .before .before .before .before .before .before .before .before .before .before .before .pre in
-    let of2° = c .before .before .before .before .before .before .before .of2 in
-    let without° = c .before .before .before .before .before .before .before .before .before .before .before .before .before .before .before .before .before .without in
-    let reduced° = c .before .before .before .before .reduced in
-    let h = rw (if1° .taken) at (solve° .ensures .0) in
-    let x = made-same (of° .ensures) (pre° .valued) in
-    let y = made-same (of2° .ensures) (word-free pre° (without° .ensures) x h) in
-    (why-yes pre° (ask-found pre° (without° .ensures) x h) (rw (of2° .ensures .mask, y) at (reduced° .ensures .0)), tables-trans (solve° .ensures .1) (reduced° .ensures .1))
+    let reduced° = c .before .before .before .before .before .before .before .before .before .reduced in
+    let solve° = c .before .before .before .before .before .before .before .before .before .before .before .before .before .before .before .before .before .before .before .before .before .before .before .before .before .before .solve in
+    let free° = c .before .before .before .before .before .before .before .before .before .before .before .before .before .before .before .before .before .before .before .before .before .before .before .before .before .before .before .before .before .before .before .before .before .before .free in
+    let without° = c .before .before .before .before .before .before .before .before .before .before .before .before .before .before .before .before .before .before .before .before .before .before .before .before .before .before .before .before .before .before .before .without in
+    let of° = c .before .before .before .before .before .before .before .before .before .before .before .before .before .before .before .before .before .before .before .before .before .before .before .before .before .before .before .before .before .before .before .before .before .of in
+    let if1° = c .before .before .before .before .before .before .before .before .before .before .before .before .before .before .before .before .if1 in
+    let of2° = c .before .before .before .before .before .before .before .before .before .before .before .before .before .before .of2 in (
+      reduced° .ensures .0 ∙ solve° .ensures .1 .1 .0,
+      λ s R.
+          let q = reduced° .ensures .1 s (rw (solve° .ensures .1 .1 .0) (ready-yes R (free° .ensures) (without° .ensures) (of° .ensures) (rw (if1° .taken) at (solve° .ensures .0)) (of2° .ensures) (solve° .ensures .1 .0))) (held-yes R (free° .ensures) (without° .ensures) (of° .ensures) (rw (if1° .taken) at (solve° .ensures .0)) (of2° .ensures)) in
+          (why-yes R (free° .ensures) (without° .ensures) (of° .ensures) (rw (if1° .taken) at (solve° .ensures .0)) (of2° .ensures) (q .0), tables-then (ready-grown R (solve° .ensures .1 .0)) (q .1)),
+    )
+
+slice-aggregate-reduced-3 : tie.Need-slice-aggregate-reduced-3
+slice-aggregate-reduced-3 c = search needs
+
+slice-aggregate-reduced-4 : tie.Need-slice-aggregate-reduced-4
+slice-aggregate-reduced-4 c = search needs
 
 reduced-requires-2 : tie.Need-reduced-requires-2
 reduced-requires-2 c κs =
-    let if1° = c .before .before .if1 in
-    let solve° = c .before .before .before .before .before .before .before .solve in
-    let of° = c .before .before .before .before .before .before .before .before .before .before .of in
-    let pre° = c .before .before .before .before .before .before .before .before .before .before .before .before .before .before .before .pre in
-    let without° = c .before .before .before .before .before .before .before .before .before .before .before .without in
-    let h = rw (if1° .left) at (solve° .ensures .0) in
-    let x = made-same (of° .ensures) (pre° .valued) in
-    (omega arith, (ready-from pre° (rw (of° .ensures .mask) (pre° .entered)) (made-sub (of° .ensures)) (solve° .ensures .1), rw (of° .ensures .mask, x) (held-no pre° (without° .ensures) x h)))
-
-same-length-3 : tie.Need-same-length-3
-same-length-3 c =
-    let solve° = c .before .before .before .before .before .before .before .before .before .before .before .before .solve in
-    let reduced2° = c .before .before .before .before .reduced2 in
-    tables-trans (solve° .ensures .1) (reduced2° .ensures .1) .under .same
+    let solve° = c .before .before .before .before .before .before .before .before .before .before .before .before .before .before .before .solve in
+    let pre° = c .before .before .before .before .before .before .before .before .before .before .before .before .before .before .before .before .before .before .before .before .before .before .before .before .before .before .before .before .pre in
+    let free° = c .before .before .before .before .before .before .before .before .before .before .before .before .before .before .before .before .before .before .before .before .before .before .before .free in
+    let without° = c .before .before .before .before .before .before .before .before .before .before .before .before .before .before .before .before .before .before .before .before .without in
+    let of° = c .before .before .before .before .before .before .before .before .before .before .before .before .before .before .before .before .before .before .before .before .before .before .of in
+    let if1° = c .before .before .before .before .before .if1 in
+    ((omega arith, omega arith, solve° .ensures .1 .1 .1, solve° .ensures .1 .1 .2), (pre° .0, rw (solve° .ensures .1 .1 .0) (ready-no (pre° .1) (free° .ensures) (without° .ensures) (of° .ensures) (rw (if1° .left) at (solve° .ensures .0)) (solve° .ensures .1 .0)), held-no (pre° .1) (free° .ensures) (without° .ensures) (of° .ensures) (rw (if1° .left) at (solve° .ensures .0))))
 
 same-length-4 : tie.Need-same-length-4
-same-length-4 c =
-    let solve° = c .before .before .before .before .before .before .before .before .before .before .before .before .solve in
-    let reduced2° = c .before .before .before .before .reduced2 in
-    tables-trans (solve° .ensures .1) (reduced2° .ensures .1) .over .same
+same-length-4 c = search needs
+
+same-length-5 : tie.Need-same-length-5
+same-length-5 c = search needs
+
+same-length-6 : tie.Need-same-length-6
+same-length-6 c = search needs
 
 returns-2 : tie.Need-returns-2
 returns-2 c =
-    let if1° = c .before .before .before .before .before .before .before .if1 in
-    let solve° = c .before .before .before .before .before .before .before .before .before .before .before .before .solve in
-    let of° = c .before .before .before .before .before .before .before .before .before .before .before .before .before .before .before .of in
-    let pre° = c .before .before .before .before .before .before .before .before .before .before .before .before .before .before .before .before .before .before .before .before .pre in
-    let without° = c .before .before .before .before .before .before .before .before .before .before .before .before .before .before .before .before .without in
-    let reduced2° = c .before .before .before .before .reduced2 in
-    let h = rw (if1° .left) at (solve° .ensures .0) in
-    let x = made-same (of° .ensures) (pre° .valued) in
-    (why-no pre° (ask-missed pre° (without° .ensures) x h) (rw (of° .ensures .mask, x) at (reduced2° .ensures .0)), tables-trans (solve° .ensures .1) (reduced2° .ensures .1))
+    let reduced2° = c .before .before .before .before .before .before .before .before .before .reduced2 in
+    let solve° = c .before .before .before .before .before .before .before .before .before .before .before .before .before .before .before .before .before .before .before .before .before .before .before .before .before .solve in
+    let free° = c .before .before .before .before .before .before .before .before .before .before .before .before .before .before .before .before .before .before .before .before .before .before .before .before .before .before .before .before .before .before .before .before .before .free in
+    let without° = c .before .before .before .before .before .before .before .before .before .before .before .before .before .before .before .before .before .before .before .before .before .before .before .before .before .before .before .before .before .before .without in
+    let of° = c .before .before .before .before .before .before .before .before .before .before .before .before .before .before .before .before .before .before .before .before .before .before .before .before .before .before .before .before .before .before .before .before .of in
+    let if1° = c .before .before .before .before .before .before .before .before .before .before .before .before .before .before .before .if1 in (
+      reduced2° .ensures .0 ∙ solve° .ensures .1 .1 .0,
+      λ s R.
+          let q = reduced2° .ensures .1 s (rw (solve° .ensures .1 .1 .0) (ready-no R (free° .ensures) (without° .ensures) (of° .ensures) (rw (if1° .left) at (solve° .ensures .0)) (solve° .ensures .1 .0))) (held-no R (free° .ensures) (without° .ensures) (of° .ensures) (rw (if1° .left) at (solve° .ensures .0))) in
+          (why-no R (free° .ensures) (without° .ensures) (of° .ensures) (rw (if1° .left) at (solve° .ensures .0)) (q .0), tables-then (ready-grown R (solve° .ensures .1 .0)) (q .1)),
+    )
 
 pub why-spec : {M : Type 1} → statement M
 why-spec =
     tie.close
     (tie.spec
-    sub-last
-    without-requires
+    free-requires
     of-requires
+    without-requires
+    slice-aggregate-solve
+    slice-aggregate-solve-2
     solve-requires
     of-requires-2
+    slice-aggregate-reduced
+    slice-aggregate-reduced-2
     reduced-requires
     same-length
     same-length-2
-    returns
-    reduced-requires-2
     same-length-3
+    returns
+    slice-aggregate-reduced-3
+    slice-aggregate-reduced-4
+    reduced-requires-2
     same-length-4
+    same-length-5
+    same-length-6
     returns-2)

@@ -1,15 +1,20 @@
 -- `solver::verdict::ask` meets its contract: the search of the last frame over the free variables that are not entered. Assumes nothing.
 use native.Mathlib.Omega.{arith}
-use Rattle.cube.specs.Cube.{made-same}
-use Rattle.solver.specs.Ask.{ready-posed, ready-ground, answered-yes, answered-no}
+use mathlib.Core.Path.{refl, _∙_, ap}
+use lib.ListN.{length}
 use borrow.Author.Needs.{needs}
+use Rattle.solver.specs.Ask.{entered-asking, answered-yes, answered-no}
 use Rattle.solver.proofs.verdict.ask.Statement.{statement}
 use Rattle.solver.proofs.verdict.ask.Tie as tie
 
+free-requires : tie.Need-free-requires
+free-requires c κs = search needs
+
+frames-requires : tie.Need-frames-requires
+frames-requires c κs = search needs
+
 sub-last : tie.Need-sub-last
-sub-last c =
-    let pre° = c .before .before .before .pre in
-    omega (arith, pre° .some)
+sub-last c = search needs
 
 without-requires : tie.Need-without-requires
 without-requires c κs = search needs
@@ -17,82 +22,147 @@ without-requires c κs = search needs
 of-requires : tie.Need-of-requires
 of-requires c κs = search needs
 
+slice-aggregate-solve : tie.Need-slice-aggregate-solve
+slice-aggregate-solve c = search needs
+
+slice-aggregate-solve-2 : tie.Need-slice-aggregate-solve-2
+slice-aggregate-solve-2 c = search needs
+
 solve-requires : tie.Need-solve-requires
 solve-requires c κs =
-    let pre° = c .before .before .before .before .before .before .before .pre in
-    let without° = c .before .before .before .without in
-    let of° = c .before .before .of in
-    (ready-posed pre° 1 (omega arith) (without° .ensures) (of° .ensures .mask) (made-same (of° .ensures) (pre° .valued)), ready-ground pre°)
+    let pre° = c .before .before .before .before .before .before .before .before .before .before .before .before .before .before .pre in
+    let free° = c .before .before .before .before .before .before .before .before .before .free in
+    let without° = c .before .before .before .before .before .without in
+    let of° = c .before .before .before .before .of in
+    (pre° .0, entered-asking (pre° .1) 2 (omega arith) (omega arith) (free° .ensures) (without° .ensures) (of° .ensures) refl refl)
 
 cast-ensure : tie.Need-cast-ensure
 cast-ensure c =
-    let pre° = c .before .before .before .before .before .before .before .before .before .before .before .before .before .before .pre in
-    omega (arith, pre° .few)
+    let frames° = c .before .before .before .before .before .before .before .before .before .before .before .before .before .before .before .before .before .before .before .frames in
+    let pre° = c .before .before .before .before .before .before .before .before .before .before .before .before .before .before .before .before .before .before .before .before .before .before .before .before .before .before .pre in
+    omega (arith, frames° .ensures, pre° .1 .net-of .ground .room, pre° .1 .net-of .ground .few)
+
+low-requires : tie.Need-low-requires
+low-requires c κs = search needs
+
+low-requires-2 : tie.Need-low-requires-2
+low-requires-2 c κs = search needs
+
+low-requires-3 : tie.Need-low-requires-3
+low-requires-3 c κs = search needs
 
 ensure-requires : tie.Need-ensure-requires
-ensure-requires c κs =
-    let solve° = c .before .before .before .before .before .before .solve in
-    solve° .ensures .1 .tables .under .fits
+ensure-requires c κs = search needs
 
 same-length : tie.Need-same-length
-same-length c = search needs
+same-length c =
+    let solve° = c .before .before .before .before .before .before .before .before .before .before .before .before .before .before .before .before .before .solve in
+    ap length (solve° .ensures .1 .1 .0)
 
 same-length-2 : tie.Need-same-length-2
-same-length-2 c = search needs
+same-length-2 c =
+    let ensure° = c .before .before .ensure in
+    let solve° = c .before .before .before .before .before .before .before .before .before .before .before .before .before .before .before .before .before .solve in
+    ensure° .ensures .grown .same ∙ solve° .ensures .1 .0 .under .same
+
+same-length-3 : tie.Need-same-length-3
+same-length-3 c =
+    let solve° = c .before .before .before .before .before .before .before .before .before .before .before .before .before .before .before .before .before .solve in
+    solve° .ensures .1 .0 .over .same
 
 returns : tie.Need-returns
 returns c =
-    let pre° = c .before .before .before .before .before .before .before .before .before .before .before .before .before .before .before .before .before .pre in
-    let without° = c .before .before .before .before .before .before .before .before .before .before .before .before .before .without in
-    let of° = c .before .before .before .before .before .before .before .before .before .before .before .before .of in
-    let if1° = c .before .before .before .before .if1 in
-    let solve° = c .before .before .before .before .before .before .before .before .before .solve in
-    let ensure° = c .before .before .ensure in
-    let a = answered-yes pre° (without° .ensures) (made-same (of° .ensures) (pre° .valued)) (rw (if1° .taken) at (solve° .ensures .0)) (solve° .ensures .1) (ensure° .ensures) in
-    (a .0, (a .1, a .2))
+    let solve° = c .before .before .before .before .before .before .before .before .before .before .before .before .before .before .before .before .before .solve in
+    let free° = c .before .before .before .before .before .before .before .before .before .before .before .before .before .before .before .before .before .before .before .before .before .before .before .before .before .before .before .free in
+    let without° = c .before .before .before .before .before .before .before .before .before .before .before .before .before .before .before .before .before .before .before .before .before .before .before .without in
+    let of° = c .before .before .before .before .before .before .before .before .before .before .before .before .before .before .before .before .before .before .before .before .before .before .of in
+    let frames° = c .before .before .before .before .before .before .before .before .before .before .before .before .before .before .before .before .before .before .before .before .before .before .before .before .before .frames in
+    let if1° = c .before .before .before .before .before .before .before .if1 in
+    let low° = c .before .before .before .before .before .low in
+    let low2° = c .before .before .before .before .low2 in
+    let low3° = c .before .before .before .low3 in
+    let ensure° = c .before .before .ensure in (
+      solve° .ensures .1 .1 .0,
+      λ s R. answered-yes R (free° .ensures) (without° .ensures) (of° .ensures) (frames° .ensures) (solve° .ensures .1 .0) (rw (if1° .taken) at (solve° .ensures .0)) (low° .ensures) (low2° .ensures) (low3° .ensures) (ensure° .ensures),
+    )
 
 cast-ensure-2 : tie.Need-cast-ensure-2
 cast-ensure-2 c =
-    let pre° = c .before .before .before .before .before .before .before .before .before .before .before .before .before .before .pre in
-    omega (arith, pre° .few)
+    let frames° = c .before .before .before .before .before .before .before .before .before .before .before .before .before .before .before .before .before .before .before .frames in
+    let pre° = c .before .before .before .before .before .before .before .before .before .before .before .before .before .before .before .before .before .before .before .before .before .before .before .before .before .before .pre in
+    omega (arith, frames° .ensures, pre° .1 .net-of .ground .room, pre° .1 .net-of .ground .few)
+
+low-requires-4 : tie.Need-low-requires-4
+low-requires-4 c κs = search needs
+
+low-requires-5 : tie.Need-low-requires-5
+low-requires-5 c κs = search needs
+
+low-requires-6 : tie.Need-low-requires-6
+low-requires-6 c κs = search needs
 
 ensure-requires-2 : tie.Need-ensure-requires-2
-ensure-requires-2 c κs =
-    let solve° = c .before .before .before .before .before .before .solve in
-    solve° .ensures .1 .tables .over .fits
-
-same-length-3 : tie.Need-same-length-3
-same-length-3 c = search needs
+ensure-requires-2 c κs = search needs
 
 same-length-4 : tie.Need-same-length-4
-same-length-4 c = search needs
+same-length-4 c =
+    let solve° = c .before .before .before .before .before .before .before .before .before .before .before .before .before .before .before .before .before .solve in
+    ap length (solve° .ensures .1 .1 .0)
+
+same-length-5 : tie.Need-same-length-5
+same-length-5 c =
+    let solve° = c .before .before .before .before .before .before .before .before .before .before .before .before .before .before .before .before .before .solve in
+    solve° .ensures .1 .0 .under .same
+
+same-length-6 : tie.Need-same-length-6
+same-length-6 c =
+    let ensure2° = c .before .before .ensure2 in
+    let solve° = c .before .before .before .before .before .before .before .before .before .before .before .before .before .before .before .before .before .solve in
+    ensure2° .ensures .grown .same ∙ solve° .ensures .1 .0 .over .same
 
 returns-2 : tie.Need-returns-2
 returns-2 c =
-    let pre° = c .before .before .before .before .before .before .before .before .before .before .before .before .before .before .before .before .before .pre in
-    let without° = c .before .before .before .before .before .before .before .before .before .before .before .before .before .without in
-    let of° = c .before .before .before .before .before .before .before .before .before .before .before .before .of in
-    let if1° = c .before .before .before .before .if1 in
-    let solve° = c .before .before .before .before .before .before .before .before .before .solve in
-    let ensure2° = c .before .before .ensure2 in
-    let a = answered-no pre° (without° .ensures) (made-same (of° .ensures) (pre° .valued)) (rw (if1° .left) at (solve° .ensures .0)) (solve° .ensures .1) (ensure2° .ensures) in
-    (a .0, (a .1, a .2))
+    let solve° = c .before .before .before .before .before .before .before .before .before .before .before .before .before .before .before .before .before .solve in
+    let free° = c .before .before .before .before .before .before .before .before .before .before .before .before .before .before .before .before .before .before .before .before .before .before .before .before .before .before .before .free in
+    let without° = c .before .before .before .before .before .before .before .before .before .before .before .before .before .before .before .before .before .before .before .before .before .before .before .without in
+    let of° = c .before .before .before .before .before .before .before .before .before .before .before .before .before .before .before .before .before .before .before .before .before .before .of in
+    let frames° = c .before .before .before .before .before .before .before .before .before .before .before .before .before .before .before .before .before .before .before .before .before .before .before .before .before .frames in
+    let if1° = c .before .before .before .before .before .before .before .if1 in
+    let low4° = c .before .before .before .before .before .low4 in
+    let low5° = c .before .before .before .before .low5 in
+    let low6° = c .before .before .before .low6 in
+    let ensure2° = c .before .before .ensure2 in (
+      solve° .ensures .1 .1 .0,
+      λ s R. answered-no R (free° .ensures) (without° .ensures) (of° .ensures) (frames° .ensures) (solve° .ensures .1 .0) (rw (if1° .left) at (solve° .ensures .0)) (low4° .ensures) (low5° .ensures) (low6° .ensures) (ensure2° .ensures),
+    )
 
 pub ask-spec : {M : Type 1} → statement M
 ask-spec =
     tie.close
     (tie.spec
+    free-requires
+    frames-requires
     sub-last
     without-requires
     of-requires
+    slice-aggregate-solve
+    slice-aggregate-solve-2
     solve-requires
     cast-ensure
+    low-requires
+    low-requires-2
+    low-requires-3
     ensure-requires
     same-length
     same-length-2
+    same-length-3
     returns
     cast-ensure-2
+    low-requires-4
+    low-requires-5
+    low-requires-6
     ensure-requires-2
-    same-length-3
     same-length-4
+    same-length-5
+    same-length-6
     returns-2)

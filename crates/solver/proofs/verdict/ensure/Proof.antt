@@ -1,6 +1,6 @@
 -- `solver::verdict::ensure` meets its contract. Assumes nothing.
-use Rattle.solver.specs.Ask.{ensured-found, ensured-put}
 use borrow.Author.Needs.{needs}
+use Rattle.solver.specs.Ask.{ensured-found, ensured-put}
 use Rattle.solver.proofs.verdict.ensure.Statement.{statement}
 use Rattle.solver.proofs.verdict.ensure.Tie as tie
 

@@ -1,0 +1,16 @@
+pub mod Over
+pub mod Net
+pub mod Clear
+pub mod Decode
+pub mod Stands
+pub mod Nest
+pub mod Layout
+pub mod StoreLaws
+pub mod Sheet
+pub mod NestLaws
+pub mod Own
+pub mod OwnLaws
+pub mod Link
+pub mod LinkLaws
+pub mod Load
+pub mod LoadLaws

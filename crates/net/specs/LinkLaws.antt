@@ -1,0 +1,121 @@
+-- Other links, the same net: what `Linked` is kept by, and what it keeps. Assumes nothing.
+use Prim.Native.Nat.{ℕ, _/_, _%_, _<_, _≤_}
+use native.Mathlib.Omega.{arith}
+use mathlib.Core.Path.{_≡_, refl, sym, _∙_, ap, ap₂, subst, fun-ext}
+use mathlib.Core.List.{List}
+use lib.ListN.{length, getD, set, length-set}
+use lib.Seq.{getD-set-same, getD-set-other}
+use lib.Dec.{eqb}
+use borrow.Author.Tests.{eqb-true}
+use Rattle.words.specs.Logic.{by-bool, tests}
+use Rattle.sheet.specs.Rules.{variables}
+use Rattle.net.specs.Net.{Net, Ranged, meaning}
+use Rattle.net.specs.Layout.{framesOf, firstWord, secondWord, unpack, packed, formulaAt, Ground}
+use Rattle.net.specs.Sheet.{NetOf}
+use Rattle.net.specs.Link.{lowPart, Linked}
+
+-- ---- the bits that a node is read from
+
+low-op : (x : ℕ) → x % 16 ≡ lowPart x % 16
+unfolding lowPart
+low-op x = omega arith
+
+low-left : (x : ℕ) → x / 16 % 4096 ≡ lowPart x / 16 % 4096
+unfolding lowPart
+low-left x = omega arith
+
+low-right : (x : ℕ) → x / 65536 % 4096 ≡ lowPart x / 65536 % 4096
+unfolding lowPart
+low-right x = omega arith
+
+pub unpack-low : (x y m : ℕ) → lowPart x ≡ lowPart y → unpack x m ≡ unpack y m
+unfolding unpack
+unpack-low x y m e = rw (low-op x, low-left x, low-right x, low-op y, low-left y, low-right y, e)
+
+-- ---- links stored
+
+pub linked-refl : (net : List ℕ) → Linked net net
+linked-refl net = record { long = refl; count = refl; opens = refl; nodes = λ k. refl; first-same = refl; second-same = refl }
+
+pub linked-trans : {a b c : List ℕ} → Linked a b → Linked b c → Linked a c
+linked-trans {a} {b} {c} L M =
+    record {
+      long = M .long ∙ L .long;
+      count = M .count ∙ L .count;
+      opens = M .opens ∙ L .opens;
+      nodes = λ k. M .nodes k ∙ L .nodes k;
+      first-same = (rw (L .count) at (M .first-same)) ∙ L .first-same;
+      second-same = (rw (L .count) at (M .second-same)) ∙ L .second-same;
+    }
+
+set-other : {net′ : List ℕ} (net : List ℕ) (i x : ℕ) → net′ ≡ set net i x → (j : ℕ) → (j ≡ i → ⊥) → getD net′ j 0 ≡ getD net j 0
+set-other net i x is j h = ap (λ (l : List ℕ). getD l j 0) is ∙ getD-set-other net i j x 0 h
+
+-- one word, before the place behind the frames
+linked-set : {net net′ : List ℕ} (i x : ℕ) → 2 ≤ i → i < firstWord (framesOf net) → net′ ≡ set net i x → ((k : ℕ) → packed net′ k ≡ packed net k) → Linked net net′
+linked-set {net} {net′} i x a b is nodes =
+    record {
+      long = ap length is ∙ simp length-set;
+      count = set-other net i x is 0 (λ q. omega arith);
+      opens = set-other net i x is 1 (λ q. omega arith);
+      nodes = nodes;
+      first-same = set-other net i x is (firstWord (framesOf net)) (λ q. omega arith);
+      second-same = set-other net i x is (secondWord (framesOf net)) (λ q. omega arith);
+    }
+
+-- the first word of a node, with the same low part
+pub linked-relink : {net net′ : List ℕ} (k w : ℕ) → Ground net → k < framesOf net → lowPart w ≡ lowPart (getD net (firstWord k) 0)
+    → net′ ≡ set net (firstWord k) w → Linked net net′
+unfolding packed
+linked-relink {net} {net′} k w G l e is =
+    linked-set (firstWord k) w (omega arith) (omega arith) is
+    (λ j. by-bool (eqb j k)
+    (λ q. rw (eqb-true j k q) (ap₂ unpack here (other (secondWord k) (λ z. omega arith))
+    ∙ unpack-low w (getD net (firstWord k) 0) (getD net (secondWord k) 0) e))
+    (λ q. ap₂ unpack (other (firstWord j) (λ z. omega tests)) (other (secondWord j) (λ z. omega arith))))
+  where
+    other : (i : ℕ) → (i ≡ firstWord k → ⊥) → getD net′ i 0 ≡ getD net i 0
+    other = set-other net (firstWord k) w is
+
+    here : getD net′ (firstWord k) 0 ≡ w
+    here = ap (λ (r : List ℕ). getD r (firstWord k) 0) is ∙ getD-set-same net (firstWord k) w 0 (omega (arith, G .room))
+
+-- the link of a variable
+pub linked-reader : {net net′ : List ℕ} (i x : ℕ) → 2 ≤ i → i < 66 → net′ ≡ set net i x → Linked net net′
+unfolding packed
+linked-reader {net} {net′} i x a b is =
+    linked-set i x a (omega arith) is
+    (λ j. ap₂ unpack (set-other net i x is (firstWord j) (λ z. omega arith)) (set-other net i x is (secondWord j) (λ z. omega arith)))
+
+-- ---- what stays
+
+module _ {net net′ : List ℕ} (L : Linked net net′) where
+  linked-same : packed net′ ≡ packed net
+  linked-same = fun-ext (L .nodes)
+
+  pub linked-formula : (k : ℕ) → formulaAt net′ k ≡ formulaAt net k
+  linked-formula k = ap (λ (N : Net). meaning N k) linked-same
+
+pub linked-ground : {net net′ : List ℕ} → Ground net → Linked net net′ → Ground net′
+linked-ground {net} {net′} G L =
+    record {
+      ordered = rw (linked-same L) (G .ordered);
+      ranged = λ k. subst (Ranged variables) (sym (L .nodes k)) (G .ranged k);
+      distinct = rw (linked-same L) (G .distinct);
+      room = omega (arith, G .room, L .long, L .count);
+      few = omega (arith, G .few, L .long);
+    }
+
+pub linked-net : {s net net′ : List ℕ} → Linked net net′ → NetOf s net → NetOf s net′
+linked-net {s} {net} {net′} L N =
+    record {
+      ground = linked-ground (N .ground) L;
+      long = L .long ∙ N .long;
+      count = L .count ∙ N .count;
+      opens = L .opens ∙ N .opens;
+      each = λ k h. rw (linked-formula L k) (N .each k h);
+      clear = rw (linked-same L, L .opens) (N .clear);
+      first-empty = ap (λ (n : ℕ). getD net′ (firstWord n) 0) (L .count) ∙ L .first-same ∙ N .first-empty;
+      second-empty = ap (λ (n : ℕ). getD net′ (secondWord n) 0) (L .count) ∙ L .second-same ∙ N .second-empty;
+      behind = λ k h. L .nodes k ∙ N .behind k (omega (arith, L .count));
+    }

@@ -1,0 +1,74 @@
+-- A quantifier over one of its kind stored as one over both masks: the net is still that of the sheet. Assumes nothing.
+use Prim.Native.Nat.{ℕ, _<_, _≤_}
+use native.Mathlib.Omega.{arith}
+use mathlib.Core.Path.{_≡_, _∙_, ap}
+use mathlib.Core.Bool.{Bool}
+use mathlib.Core.List.{List}
+use lib.ListN.{getD}
+use lib.Bits.{bitOr}
+use lib.Dec.{eqb}
+use borrow.Author.Tests.{ne-eqb}
+use Rattle.words.specs.Mask.{or-apart}
+use Rattle.sheet.specs.Rules.{variables}
+use Rattle.net.specs.Net.{Node, Binds, Net, nodeOf, node-binds, replace, replace-other, fit-at, Ordered, Clear, Distinct}
+use Rattle.net.specs.Clear.{clear-less, clear-or, clear-replace, distinct-replace, ranged-replace}
+use Rattle.net.specs.Stands.{stands-trans}
+use Rattle.net.specs.Nest.{nest-stands, nest-ordered}
+use Rattle.net.specs.Layout.{framesOf, firstWord, secondWord, unpack, packed, Ground, Is, is-binds}
+use Rattle.net.specs.StoreLaws.{Stored, stored-long, stored-other, stored-count, stored-opens, stored-net}
+use Rattle.net.specs.Sheet.{NetOf}
+
+-- ---- in the net
+
+module _ {N : Net} {k q x m n : ℕ} {d : Bool} (o : Ordered N) (outer : N k ≡ Binds d m q) (inner : N q ≡ Binds d n x) where
+  pub nest-clear : {a z : ℕ} → Clear N a z → Clear (replace N k (Binds d (bitOr m n) x)) a z
+  nest-clear C = clear-replace d x C (λ l. or-apart (C .apart k l outer) (C .apart q (omega (arith, fit-at o outer)) inner))
+
+  pub nest-distinct : Distinct N → Distinct (replace N k (Binds d (bitOr m n) x))
+  nest-distinct D =
+      distinct-replace d x D
+      (nest-clear (clear-or (clear-less (D .below k outer) (omega (arith, fit-at o inner))) (D .below q inner)))
+      (λ i e z y t l. let C = D .below i t in or-apart (C .apart k l outer) (C .apart q (omega (arith, fit-at o outer)) inner))
+
+-- ---- in the words
+
+module _ {s net net′ : List ℕ} {k op left right mask op′ left′ right′ mask′ w : ℕ} (N : NetOf s net) (l : k < framesOf net)
+    (I : Is net k op left right mask) (h : 6 ≤ op) (J : Is net left op′ left′ right′ mask′) (same : op′ ≡ op)
+    (W : unpack w (bitOr mask mask′) ≡ nodeOf op left′ 0 (bitOr mask mask′)) (S : Stored net k w (bitOr mask mask′) net′) where
+  abbrev both : Node
+  both = Binds (eqb op 6) (bitOr mask mask′) left′
+
+  outer : packed net k ≡ Binds (eqb op 6) mask left
+  outer = is-binds (N .ground) I h
+
+  inner : packed net left ≡ Binds (eqb op 6) mask′ left′
+  inner = rw same at (is-binds (N .ground) J (omega arith))
+
+  nested : packed net′ ≡ replace (packed net) k both
+  nested = stored-net S (omega (arith, N .ground .room)) ∙ ap (replace (packed net) k) (W ∙ node-binds op left′ 0 (bitOr mask mask′) h)
+
+  nested-ground : Ground net′
+  nested-ground =
+      record {
+        ordered = rw nested (nest-ordered (N .ground .ordered) outer inner);
+        ranged = λ j. rw nested (ranged-replace variables (packed net) k both (N .ground .ranged) tt j);
+        distinct = rw nested (nest-distinct (N .ground .ordered) outer inner (N .ground .distinct));
+        room = omega (arith, N .ground .room, stored-long S, stored-count S);
+        few = omega (arith, N .ground .few, stored-long S);
+      }
+
+  pub nested-net : NetOf s net′
+  nested-net =
+      record {
+        ground = nested-ground;
+        long = stored-long S ∙ N .long;
+        count = stored-count S ∙ N .count;
+        opens = stored-opens S ∙ N .opens;
+        each = λ j i. rw nested (stands-trans (N .each j i) (nest-stands (N .ground .ordered) outer inner j));
+        clear = rw (nested, stored-opens S) (nest-clear (N .ground .ordered) outer inner (N .clear));
+        first-empty = ap (λ (n : ℕ). getD net′ (firstWord n) 0) (stored-count S)
+            ∙ stored-other S (firstWord (framesOf net)) (λ e. omega arith) (λ e. omega arith) ∙ N .first-empty;
+        second-empty = ap (λ (n : ℕ). getD net′ (secondWord n) 0) (stored-count S)
+            ∙ stored-other S (secondWord (framesOf net)) (λ e. omega arith) (λ e. omega arith) ∙ N .second-empty;
+        behind = λ j i. rw nested (replace-other (packed net) k both j (ne-eqb j k (λ e. omega (arith, stored-count S))) ∙ N .behind j (omega (arith, stored-count S)));
+      }

@@ -1,0 +1,47 @@
+-- g stands for f: the same truth under every assignment, and the same free variables. Reasons and tables of the one are those of the other. Assumes nothing.
+use Prim.Native.Nat.{ℕ, _<_}
+use mathlib.Core.Path.{_≡_, refl, sym, _∙_}
+use mathlib.Core.Bool.{Bool, true, false, not, _&&_}
+use Rattle.words.specs.Logic.{by-bool, and-both}
+use Rattle.words.specs.Word.{bit}
+use Rattle.words.specs.Mask.{Apart, without, bits-apart, bit-without}
+use Rattle.formula.specs.Assignment.{Assignment, On}
+use Rattle.formula.specs.Formula.{Formula, truth, free}
+use Rattle.formula.specs.Reason.{Explains}
+use Rattle.net.specs.Over.{over, over-free, over-meets, over-all, blend, blend-on, blend-off}
+
+pub record Stands (f g : Formula) : Type 0 where
+  pub same : (σ : Assignment) → truth g σ ≡ truth f σ
+  pub reads : (k : ℕ) → free g k ≡ free f k
+
+pub stands-refl : (f : Formula) → Stands f f
+stands-refl f = record { same = λ σ. refl; reads = λ k. refl }
+
+pub stands-trans : {f g h : Formula} → Stands f g → Stands g h → Stands f h
+stands-trans a b = record { same = λ σ. b .same σ ∙ a .same σ; reads = λ k. b .reads k ∙ a .reads k }
+
+pub stands-sym : {f g : Formula} → Stands f g → Stands g f
+stands-sym a = record { same = λ σ. sym (a .same σ); reads = λ k. sym (a .reads k) }
+
+pub explains-stands : {f g : Formula} {v : Bool} {r w : Assignment} → Stands f g → Explains g v r w → Explains f v r w
+explains-stands s G = record { inside = λ k e. sym (s .reads k) ∙ G .inside k e; forces = λ σ h. sym (s .same σ) ∙ G .forces σ h }
+
+-- ---- the reasons of a quantifier over a mask, as words
+
+module _ {f : Formula} {w : Assignment} (d : Bool) (m r : ℕ) where
+  pub mask-decided : Explains f d (bit r) w → Explains (over d m f) d (bit (without r m)) w
+  mask-decided F =
+      record {
+        inside = λ k e. let h = and-both (bit r k) (not (bit m k)) (sym (bit-without r m k) ∙ e) in over-free d m f k ∙ rw (F .inside k (h .0)) (h .1);
+        forces = λ σ h. over-meets d m f σ (blend m w σ) (blend-off m w σ)
+            (F .forces (blend m w σ) (λ k e. by-bool (bit m k)
+            (λ i. blend-on m w σ k i)
+            (λ i. blend-off m w σ k i ∙ h k (bit-without r m k ∙ rw (e, i)))));
+      }
+
+  pub mask-undecided : Explains f (not d) (bit r) w → Apart r m → Explains (over d m f) (not d) (bit r) w
+  mask-undecided F a =
+      record {
+        inside = λ k e. over-free d m f k ∙ rw (F .inside k e, bits-apart a k e);
+        forces = λ σ h. over-all d m f σ (λ τ t. F .forces τ (λ k e. t k (bits-apart a k e) ∙ h k e));
+      }

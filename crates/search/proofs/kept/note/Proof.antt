@@ -1,0 +1,51 @@
+-- `search::kept::note` meets its contract: the record that is put is true, and agrees with the word. Assumes nothing.
+use native.Mathlib.Omega.{arith}
+use borrow.Author.Needs.{needs}
+use Rattle.search.specs.SearchLaws.{noted-under, noted-over}
+use Rattle.search.proofs.kept.note.Statement.{statement}
+use Rattle.search.proofs.kept.note.Tie as tie
+
+low-requires : tie.Need-low-requires
+low-requires c κs = search needs
+
+low-requires-2 : tie.Need-low-requires-2
+low-requires-2 c κs = search needs
+
+cast-put : tie.Need-cast-put
+cast-put c = search needs
+
+put-requires : tie.Need-put-requires
+put-requires c κs = search needs
+
+same-length : tie.Need-same-length
+same-length c = search needs
+
+returns : tie.Need-returns
+returns c = noted-under ((c .before .before .before .before .before .before .before .before .before .before .args) .word) ((c .before .before .before .before .before .before .before .before .before .before .args) .known .reason) ((c .before .before .before .before .before .before .before .low) .ensures) ((c .before .before .before .before .before .before .low2) .ensures) (omega arith) ((c .before .before .put) .ensures)
+
+cast-put-2 : tie.Need-cast-put-2
+cast-put-2 c = search needs
+
+put-requires-2 : tie.Need-put-requires-2
+put-requires-2 c κs = search needs
+
+same-length-2 : tie.Need-same-length-2
+same-length-2 c = search needs
+
+returns-2 : tie.Need-returns-2
+returns-2 c = noted-over ((c .before .before .before .before .before .before .before .before .before .before .args) .word) ((c .before .before .before .before .before .before .before .before .before .before .args) .known .reason) ((c .before .before .before .before .before .before .before .low) .ensures) ((c .before .before .before .before .before .before .low2) .ensures) (omega (arith, (c .before .before .before .before .before .before .before .before .before .before .pre))) ((c .before .before .put2) .ensures)
+
+pub note-spec : {M : Type 1} → statement M
+note-spec =
+    tie.close
+    (tie.spec
+    low-requires
+    low-requires-2
+    cast-put
+    put-requires
+    same-length
+    returns
+    cast-put-2
+    put-requires-2
+    same-length-2
+    returns-2)
