@@ -8,13 +8,11 @@ use net::node_at;
 use words::w64;
 ghost use mathlib.Core.Path.{_≡_};
 ghost use mathlib.Core.List.{List};
-ghost use Prim.Native.Nat.{ℕ, _<_, _≤_};
+ghost use Prim.Native.Nat.{ℕ, _*_, _<_, _≤_};
+ghost use lib.ListN.{length};
 ghost use Rattle.net.specs.Layout.{HasNode, Ground};
 ghost use Rattle.judge.specs.Cells.{HasCell};
 ghost use Rattle.judge.specs.Judge.{Judged, Right, RightInput, Negated, Joined, Bound, Judging};
-
-// Every variable, as a mask.
-pub const ALL: u64 = 18446744073709551615;
 
 pub fn variable(left: usize) -> u8
     requires { ⌜ left < 64 ⌝ }
@@ -162,54 +160,49 @@ fn judge_next(net: &[u64], k: usize, cube: Cube64, cells: &mut [u64], head: u16)
     cells::put(cells, k, known, head)
 }
 
-// What is known of the nodes 0 to a under the cube; what is known already stays.
-fn judge_all(net: &[u64], a: usize, cube: Cube64, cells: &mut [u64], head: u16) -> u16
-    requires { ⌜ Ground (now net) × HasNode (now net) a × Judged (now net) (cube .mask) (cube .values) (now cells) ⌝ }
-    ensures { λ r. ⌜ Judging (now (net .entry)) (cube .mask) (cube .values) (now (cells .entry)) head (now (cells .exit)) r ⌝ }
-{
-    let mut k: usize = 0;
-    let mut at = head;
-    while k <= a {
-        at = judge_next(net, k, cube, cells, at);
-        k += 1;
-    }
-    at
-}
-
 // The nodes that name node k are to be judged, if it was set.
-fn spread(net: &[u64], k: usize, set: bool, marks: &mut [u64; 64])
-    requires { ⌜ HasNode (now net) k ⌝ }
+fn spread(net: &[u64], k: usize, a: usize, set: bool, marks: &mut [u64])
+    requires { ⌜ Ground (now net) × HasNode (now net) k × (a < 64 * length (now marks)) ⌝ }
 {
     if set {
-        dirty::mark_users(net, k, marks);
+        dirty::mark_users(net, k, a, marks);
     }
 }
 
-// The same as `judge_all`, of nodes that the fresh variables may have touched.
-fn judge_some(net: &[u64], a: usize, fresh: u64, cube: Cube64, cells: &mut [u64], head: u16) -> u16
-    requires { ⌜ Ground (now net) × HasNode (now net) a × Judged (now net) (cube .mask) (cube .values) (now cells) ⌝ }
+// What is known of the nodes up to a under the cube, of those that the fresh variables may have touched; what is known already stays. The marks are empty.
+fn judge_marked(
+    net: &[u64],
+    a: usize,
+    fresh: u64,
+    cube: Cube64,
+    cells: &mut [u64],
+    head: u16,
+    marks: &mut [u64],
+) -> u16
+    requires { ⌜ Ground (now net) × HasNode (now net) a × Judged (now net) (cube .mask) (cube .values) (now cells) × (a < 64 * length (now marks)) ⌝ }
     ensures { λ r. ⌜ Judging (now (net .entry)) (cube .mask) (cube .values) (now (cells .entry)) head (now (cells .exit)) r ⌝ }
 {
-    let mut marks = [0u64; 64];
-    dirty::mark_readers(net, fresh, &mut marks);
+    dirty::mark_readers(net, fresh, a, marks);
     let mut at = head;
-    let mut k = dirty::next(&marks, 0, a);
+    let mut k = dirty::next(&marks[..], 0, a);
     while k <= a {
         let old = at;
         at = judge_next(net, k, cube, cells, at);
-        spread(net, k, at != old, &mut marks);
-        k = dirty::next(&marks, k + 1, a);
+        spread(net, k, a, at != old, marks);
+        k = dirty::next(&marks[..], k + 1, a);
     }
     at
 }
 
-// The nodes are judged: all of them, or those that the fresh variables may have touched.
+// The same, with marks for a net of that size.
 pub fn judge(net: &[u64], a: usize, fresh: u64, cube: Cube64, cells: &mut [u64], head: u16) -> u16
     requires { ⌜ Ground (now net) × HasNode (now net) a × Judged (now net) (cube .mask) (cube .values) (now cells) ⌝ }
     ensures { λ r. ⌜ Judging (now (net .entry)) (cube .mask) (cube .values) (now (cells .entry)) head (now (cells .exit)) r ⌝ }
 {
-    if fresh == ALL {
-        return judge_all(net, a, cube, cells, head);
+    if a < 256 {
+        let mut few = [0u64; 4];
+        return judge_marked(net, a, fresh, cube, cells, head, &mut few);
     }
-    judge_some(net, a, fresh, cube, cells, head)
+    let mut marks = [0u64; 64];
+    judge_marked(net, a, fresh, cube, cells, head, &mut marks)
 }

@@ -139,6 +139,7 @@ fn link_at(net: &mut [u64], k: usize)
 {
     let node = node_at(&net[..], k);
     if node.op < 2 {
+        link_variable(net, k, 0);
         return;
     }
     if node.op == 2 {

@@ -3,7 +3,7 @@ use Prim.Native.Nat.{ℕ, _+_, _*_, _≤_, _<_}
 use native.Mathlib.Omega.{arith}
 use mathlib.Core.Path.{_≡_, refl, sym, ap, _∙_}
 use mathlib.Core.List.{List, [], _++_}
-use lib.ListN.{length, drop, length-append, length-drop}
+use lib.ListN.{length, drop, getD, length-append, length-drop}
 use Rattle.sheet.specs.Cause.{Refusal, first-none}
 use Rattle.sheet.specs.Check.{Checks}
 use Rattle.net.specs.Layout.{freeOf}
@@ -12,7 +12,7 @@ use Rattle.session.specs.declared.Session.{Session}
 use Rattle.session.specs.Model.{Answer, answerLength, answerBytes, lines, lineAt, line, answerAt, answersTo, answers}
 use Rattle.session.specs.Script.{answers-none, answers-next, length-answerBytes, length-answersTo}
 use Rattle.session.specs.Sound.{standingOf, Sound, OnNet, Empty, empty-sound}
-use Rattle.session.specs.Step.{Tells, Untouched}
+use Rattle.session.specs.Step.{Step, Tells, Untouched}
 use Rattle.run.specs.Run.{causes, book, before, Held, asLent, Grows, LineRecords, History, Run}
 use Rattle.run.specs.History.{lent-true, history-none, history-next, history-grows}
 use Rattle.run.specs.Course.{StepAt, Course, begun, course-next, course-stands}
@@ -20,11 +20,33 @@ use Rattle.run.specs.Accept.{Proper, causes-numbered, number-proper, pro
 use Rattle.run.specs.Before.{kept-accepted}
 use Rattle.run.specs.Written.{written, written-next}
 
+-- k a b c are the bytes of line i
+pub record LineIs (script : List ℕ) (i k a b c : ℕ) : Type 0 where
+  pub k-is : k ≡ getD script (i * 4) 0
+  pub a-is : a ≡ getD script (i * 4 + 1) 0
+  pub b-is : b ≡ getD script (i * 4 + 2) 0
+  pub c-is : c ≡ getD script (i * 4 + 3) 0
+
 -- Line i: the session steps, and the answer's bytes are written at their place. Session and buffers before and, primed, after it.
 pub record LineRun (s script : List ℕ) (free i : ℕ) (x : Session) (ans u o : List ℕ) (x' : Session) (ans' u' o' : List ℕ) : Type 0 where
   pub answer : Answer
   pub step : StepAt s script free i x u o x' u' o' answer
   pub put : ans' ≡ written ans (i * 6) (answerBytes answer)
+
+-- from what the code has of it: the line's bytes, the step on them, and the answer that is written
+pub line-run : {script net ans u o : List ℕ} {i k a b c : ℕ} {x x' : Session} {net' ans' u' o' : List ℕ} {number v word : ℕ}
+    → LineIs script i k a b c
+    → (net' ≡ net) × ((s : List ℕ) → OnNet s net x u o → Step s (freeOf net) x u o k a b c x' u' o' number v word)
+    → ans' ≡ written ans (i * 6) (answerBytes (record { number = number; v = v; word = word }))
+    → (net' ≡ net) × ((s : List ℕ) → OnNet s net x u o → LineRun s script (freeOf net) i x ans u o x' ans' u' o')
+line-run {number = number} {v = v} {word = word} l e w = (
+  e .0,
+  λ s d. record {
+    answer = record { number = number; v = v; word = word };
+    step = rw (l .k-is, l .a-is, l .b-is, l .c-is) at (e .1 s d);
+    put = w;
+  },
+)
 
 -- the records that the session x counts in the tables u and o
 abbrev pub recordsOf : Session → List ℕ → List ℕ → Held
@@ -130,6 +152,16 @@ turns-next t e l = record {
   same = e ∙ t .same;
   each = λ s k n. let g = t .each s k n in progress-next g ((rw (t .same) at l) s (record { net-of = n; sound = g .sound }));
 }
+
+-- what line i asks
+pub turns-asked : {script net ans under over : List ℕ} {i : ℕ} {x : Session} {net' ans' u o : List ℕ}
+    → (((s : List ℕ) × Checked s (freeOf net) × NetOf s net) × (answerLength * lines script ≤ length ans))
+    → i < lines script
+    → Turns script net ans under over i net' x ans' u o
+    → ((s : List ℕ) × OnNet s net' x u o) × ((i < lines script) × (i * 6 + 6 ≤ length ans'))
+turns-asked k h t =
+    let g = t .each (k .0 .0) (k .0 .1) (k .0 .2) in
+    ((k .0 .0, rw (t .same) (record { net-of = k .0 .2; sound = g .sound })), (h, omega (arith, h, k .1, progress-length g (omega (arith, h, k .1)))))
 
 -- ---- the whole run
 

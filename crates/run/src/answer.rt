@@ -15,7 +15,7 @@ fn byte(word: u64, k: u8) -> u8
 }
 
 // Writes an answer's six bytes at a place.
-pub fn write(answers: &mut [u8], at: usize, answer: Answer)
+fn write(answers: &mut [u8], at: usize, answer: Answer)
     requires { ⌜ at + 6 ≤ length (now answers) ⌝ }
     ensures { λ _. ⌜ now (answers .exit) ≡ written (now (answers .entry)) at (answerBytes (record { number = answer .number; v = answer .v; word = answer .word })) ⌝ }
 {
@@ -29,4 +29,13 @@ pub fn write(answers: &mut [u8], at: usize, answer: Answer)
     answers[at + 3] = b2;
     answers[at + 4] = b1;
     answers[at + 5] = b0;
+}
+
+// Writes the answer of line i at its place.
+pub fn write_at(answers: &mut [u8], i: usize, answer: Answer)
+    requires { ⌜ i * 6 + 6 ≤ length (now answers) ⌝ }
+    ensures { λ _. ⌜ now (answers .exit) ≡ written (now (answers .entry)) (i * 6) (answerBytes (record { number = answer .number; v = answer .v; word = answer .word })) ⌝ }
+{
+    let at = i * 6;
+    write(answers, at, answer);
 }

@@ -5,6 +5,7 @@ ghost use mathlib.Core.Path.{_≡_};
 ghost use mathlib.Core.List.{List, _++_};
 ghost use Prim.Native.Nat.{ℕ, _+_, _*_, _/_, _<_, _≤_};
 ghost use lib.ListN.{length};
+ghost use lib.Dec.{ltb};
 ghost use Rattle.sheet.specs.Cause.{first};
 ghost use Rattle.sheet.specs.Check.{Checks};
 ghost use Rattle.session.specs.Model.{answerLength, lines};
@@ -12,7 +13,7 @@ ghost use Rattle.net.specs.Layout.{freeOf};
 ghost use Rattle.net.specs.Sheet.{Checked, NetOf};
 ghost use Rattle.session.specs.Sound.{OnNet};
 ghost use Rattle.run.specs.Run.{scriptCauses, roomCauses, causes, Run};
-ghost use Rattle.run.specs.Progress.{LineRun, Progress};
+ghost use Rattle.run.specs.Progress.{LineIs, LineRun, Progress};
 use session::Session;
 use sheet::refusal;
 
@@ -64,35 +65,63 @@ fn check(sheet: &[u8], script: &[u8], room: usize) -> sheet::Checked
     sheet::check_frames(sheet)
 }
 
-// Line i: the session steps, and its answer is written.
+// The four bytes of a line.
+struct Line {
+    k: u8,
+    a: u8,
+    b: u8,
+    c: u8,
+}
+
+// Line i.
+fn line_at(script: &[u8], i: usize) -> Line
+    requires { ⌜ i < lines (now script) ⌝ }
+    ensures { λ r. ⌜ LineIs (now (script .entry)) i (r .k) (r .a) (r .b) (r .c) ⌝ }
+{
+    let at = i * 4;
+    Line {
+        k: script[at],
+        a: script[at + 1],
+        b: script[at + 2],
+        c: script[at + 3],
+    }
+}
+
+// A turn of the run: the line's number, the number after it, and whether the script has such a line.
+struct Turn {
+    i: usize,
+    next: usize,
+    more: bool,
+}
+
+// The turn of line i.
+fn turn_at(script: &[u8], i: usize) -> Turn
+    requires { ⌜ i ≤ lines (now script) ⌝ }
+    ensures { λ r. ⌜ (r .i ≡ i) × (r .next ≡ i + 1) × (r .more ≡ ltb i (lines (now (script .entry)))) ⌝ }
+{
+    Turn {
+        i,
+        next: i + 1,
+        more: i < script.len() / 4,
+    }
+}
+
+// Line i: the session steps in place, and its answer is written.
 fn run_line(
-    session: Session,
+    session: &mut Session,
     i: usize,
     net: &mut [u64],
     script: &[u8],
     answers: &mut [u8],
     under: &mut [u32],
     over: &mut [u32],
-) -> Session
-    requires { ⌜ ((s : List ℕ) × OnNet s (now net) session (now under) (now over)) × ((i < lines (now script)) × (i * 6 + 6 ≤ length (now answers))) ⌝ }
-    ensures { λ r. ⌜ now (net .exit) ≡ now (net .entry) ⌝ }
-    ensures { λ r. ⌜ ((s : List ℕ) → OnNet s (now (net .entry)) session (now (under .entry)) (now (over .entry)) → LineRun s (now (script .entry)) (freeOf (now (net .entry))) i session (now (answers .entry)) (now (under .entry)) (now (over .entry)) r (now (answers .exit)) (now (under .exit)) (now (over .exit))) ⌝ }
+)
+    requires { ⌜ ((s : List ℕ) × OnNet s (now net) (now session) (now under) (now over)) × ((i < lines (now script)) × (i * 6 + 6 ≤ length (now answers))) ⌝ }
+    ensures { λ _. ⌜ (now (net .exit) ≡ now (net .entry)) × ((s : List ℕ) → OnNet s (now (net .entry)) (now (session .entry)) (now (under .entry)) (now (over .entry)) → LineRun s (now (script .entry)) (freeOf (now (net .entry))) i (now (session .entry)) (now (answers .entry)) (now (under .entry)) (now (over .entry)) (now (session .exit)) (now (answers .exit)) (now (under .exit)) (now (over .exit))) ⌝ }
 {
-    let at = i * 4;
-    let place = i * 6;
-    let stepped = session::inplace::step_lent(
-        session,
-        script[at],
-        script[at + 1],
-        script[at + 2],
-        script[at + 3],
-        net,
-        under,
-        over,
-    );
-    let told = stepped.answer;
-    answer::write(answers, place, told);
-    stepped.session
+    let line = line_at(script, i);
+    let told = session::inplace::step(session, line.k, line.a, line.b, line.c, net, under, over);
+    answer::write_at(answers, i, told);
 }
 
 // Every line in turn, from no entry and no record.
@@ -106,12 +135,11 @@ fn run_lines(
     requires { ⌜ ((s : List ℕ) × Checked s (freeOf (now net)) × NetOf s (now net)) × (answerLength * lines (now script) ≤ length (now answers)) ⌝ }
     ensures { λ r. ⌜ ((s : List ℕ) → Checked s (freeOf (now (net .entry))) → NetOf s (now (net .entry)) → Progress s (now (script .entry)) (freeOf (now (net .entry))) (now (answers .entry)) (now (under .entry)) (now (over .entry)) (lines (now (script .entry))) r (now (answers .exit)) (now (under .exit)) (now (over .exit))) ⌝ }
 {
-    let n = script.len() / 4;
     let mut session = session::entries::empty();
-    let mut i: usize = 0;
-    while i < n {
-        session = run_line(session, i, net, script, answers, under, over);
-        i += 1;
+    let mut turn = turn_at(script, 0);
+    while turn.more {
+        run_line(&mut session, turn.i, net, script, answers, under, over);
+        turn = turn_at(script, turn.next);
     }
     session
 }

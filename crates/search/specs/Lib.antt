@@ -1,11 +1,5 @@
 pub mod Kept
 pub mod Search
-pub mod Halves
 pub mod SearchLaws
-pub mod Required
-pub mod RequiredLaws
-pub mod Gather
-pub mod GatherLaws
-pub mod ForceLaws
 pub mod Lookahead
 pub mod LookaheadLaws

@@ -13,50 +13,17 @@ use Rattle.records.specs.Both.{Tables}
 use Rattle.net.specs.Net.{Clear}
 use Rattle.net.specs.Layout.{framesOf, packed, formulaAt, val, decides, Ground}
 use Rattle.judge.specs.Judge.{Forced, Judged}
-
--- found: the word gives f the truth v because of the variables of r; it is w and some variables of `loose`, and no smaller one does
-pub record Found (f : Formula) (v : Bool) (loose w word r : ℕ) : Type 0 where
-  pub explains : Explains f v (bit r) (bit word)
-  pub chosen : ℕ
-  pub inside : Sub chosen loose
-  pub is : word ≡ w + chosen
-  pub least : (z : ℕ) → Sub z loose → w + z < word → truth f (bit (w + z)) ≡ not v
-
--- lost: f has the other truth because of the variables of r, whatever those of `loose` are
-pub record Lost (f : Formula) (v : Bool) (loose w r : ℕ) : Type 0 where
-  pub explains : Explains f (not v) (bit r) (bit w)
-  pub apart : Apart r loose
+pub use Rattle.imply.specs.Posed.{Found, Lost, Free, Covers, Posed}
 
 -- node a is searched for the truth t over the variables of `loose`
 abbrev pub Solved : List ℕ → ℕ → ℕ → ℕ → ℕ → Bool → ℕ → ℕ → Type 0
 Solved net a t loose w true word r = Found (formulaAt net a) (val t) loose w word r
 Solved net a t loose w false word r = Lost (formulaAt net a) (val t) loose w r
 
--- the cube m, w fixes and sets no variable of `loose`
-pub record Free (loose m w : ℕ) : Type 0 where
-  pub apart : Apart m loose
-  pub clear : Apart w loose
-
--- every variable that node a reads is a place of z
-pub record Covers (net : List ℕ) (a z : ℕ) : Type 0 where
-  pub all : (x : ℕ) → free (formulaAt net a) x ≡ true → bit z x ≡ true
-
 -- the scratch for wants has a place for every node, and the records are true of the net
 pub record Lent (net wants u : List ℕ) (cu : ℕ) (o : List ℕ) (co : ℕ) : Type 0 where
   pub long : length net ≤ 66 + length wants
   pub tables : Tables (formulaAt net) (framesOf net) u cu o co
-
--- a search of node a for the truth t: the cube m, w fixes and sets no variable of `loose`, all that the node reads is assigned or loose, and no
--- quantifier below binds any of it
-pub record Posed (net : List ℕ) (a t loose m w : ℕ) (cells : List ℕ) : Type 0 where
-  pub ground : Ground net
-  pub here : a < framesOf net
-  pub target-some : 0 < t
-  pub target-low : t < 3
-  pub free : Free loose m w
-  pub covers : Covers net a (bitOr m loose)
-  pub clear : Clear (packed net) a (bitOr m loose)
-  pub judged : Judged net m w cells
 
 -- node i under a full candidate, or a quantifier at the place behind the frames
 pub record Checked (net : List ℕ) (i m w : ℕ) (cells : List ℕ) : Type 0 where

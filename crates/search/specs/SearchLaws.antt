@@ -32,7 +32,7 @@ use Rattle.net.specs.Layout.{f-fixed, f-true, f-reads, f-flips, f-joins, f-bind
 use Rattle.judge.specs.Judge.{Right, Judged}
 use Rattle.search.specs.Kept.{all, lowWord, RecordAt, Recorded, Noted}
 use Rattle.search.specs.Search.{Found, Lost, Solved, Free, Covers, Lent, Posed, Checked, Told, Leaf, Shown}
-use Rattle.search.specs.Halves.{found-known, apart-inside, bit-plus, or-none, off-sub, off-mask, rest-less, half-clear, half-free, half-same}
+use Rattle.imply.specs.Halves.{found-known, apart-inside, bit-plus, or-none, off-sub, off-mask, rest-less, half-clear, half-free, half-same}
 use Rattle.judge.specs.JudgeLaws.{judged-fixed, judged-inner}
 
 -- ---- known values

@@ -1,6 +1,5 @@
 // The functions that call each other on falling node numbers. Source 000's subtreeIsSolved is `choose` with `extend`, `settle`, `push`, `branch` and
 // `candidate`; its solutionForallChildren is `check` with `evaluate`, `gate` and `quantified`.
-use crate::force;
 use crate::kept::note;
 use crate::kept::recorded;
 use cube::Cube64;
@@ -163,7 +162,7 @@ fn push(
     ensures { λ r. ⌜ TablesGrown (formulaAt (now (net .entry))) (framesOf (now (net .entry))) (now (under .entry)) (kept .under) (now (over .entry)) (kept .over) (now (under .exit)) (r .kept .under) (now (over .exit)) (r .kept .over) ⌝ }
 {
     let mut whys = [0u64; 64];
-    let f = force::force(net, a, target, loose, cube, &cells[..], wants, &mut whys);
+    let f = imply::force(net, a, target, loose, cube, &cells[..], wants, &mut whys);
     if f.mask == 0 {
         return branch(net, a, target, loose, cube, cells, wants, under, over, kept);
     }
@@ -188,7 +187,7 @@ fn push(
     if out.found {
         return out;
     }
-    let why = force::gather(&whys, out.reason & f.mask);
+    let why = imply::gather(&whys, out.reason & f.mask);
     let after = out.kept;
     Outcome {
         found: false,

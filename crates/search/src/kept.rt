@@ -16,7 +16,7 @@ ghost use Rattle.search.specs.Kept.{Recorded, Noted};
 const ALL: u32 = 4294967295;
 
 // The part of a word that records speak of.
-fn low(word: u64) -> u32
+pub fn low(word: u64) -> u32
     ensures { λ r. ⌜ r ≡ word % 4294967296 ⌝ }
 {
     (word % 4294967296) as u32

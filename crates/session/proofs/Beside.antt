@@ -1,4 +1,4 @@
--- What the walks of `inplace::step` and `inplace::step_lent` share: the parameters beside the session. Assumes nothing.
+-- What the walks of `inplace::step` and of its caller, `run::run_line`, share: the parameters beside the session. Assumes nothing.
 --     Beside, Values   k, a, b, c, the net and the two tables; and their machine values.        values-of   the second from the first
 --     Ends             what is bound at exit for each of them.        net-end, under-end, over-end   the last lists of the net and the tables
 --     Some, Every      what is asked of the net and the tables, and what is said of their last lists and of the answer, at any sheet whose net it is

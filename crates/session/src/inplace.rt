@@ -7,7 +7,6 @@ ghost use Rattle.session.specs.Sound.{OnNet};
 ghost use Rattle.session.specs.Step.{Step};
 use crate::Answer;
 use crate::Session;
-use crate::Stepped;
 use crate::line;
 
 // The session's line: the answer is returned, and the session is stored back. The net is as before after it.
@@ -27,26 +26,4 @@ pub fn step<'s, 'n, 'u, 'o>(
     let next = line::step(*session, k, a, b, c, net, under, over);
     *session = next.session;
     next.answer
-}
-
-// The same by value, for callers that keep a session of their own: it is lent to `step` and handed back.
-pub fn step_lent(
-    session: Session,
-    k: u8,
-    a: u8,
-    b: u8,
-    c: u8,
-    net: &mut [u64],
-    under: &mut [u32],
-    over: &mut [u32],
-) -> Stepped
-    requires { ⌜ ((s : List ℕ) × OnNet s (now net) session (now under) (now over)) ⌝ }
-    ensures { λ r. ⌜ (now (net .exit) ≡ now (net .entry)) × ((s : List ℕ) → OnNet s (now (net .entry)) session (now (under .entry)) (now (over .entry)) → Step s (freeOf (now (net .entry))) session (now (under .entry)) (now (over .entry)) k a b c (r .session) (now (under .exit)) (now (over .exit)) (r .answer .number) (r .answer .v) (r .answer .word)) ⌝ }
-{
-    let mut own = session;
-    let answer = step(&mut own, k, a, b, c, net, under, over);
-    Stepped {
-        session: own,
-        answer,
-    }
 }

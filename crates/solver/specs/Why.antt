@@ -18,7 +18,7 @@ use Rattle.records.specs.Both.{tables-same, tables-then}
 use Rattle.records.specs.Both as Both
 use Rattle.net.specs.Layout.{framesOf, freeOf, formulaAt, val, val-flip}
 use Rattle.search.specs.Search.{Found, Lost}
-use Rattle.search.specs.Halves.{bit-plus, off-mask, or-none}
+use Rattle.imply.specs.Halves.{bit-plus, off-mask, or-none}
 use Rattle.solver.specs.Contract.{root, Ready, TablesGrown, Same}
 use Rattle.solver.specs.Question.{scratchWords, blank, Asking}
 use Rattle.solver.specs.Ask.{ready-bounded, ready-asking, ready-found, ready-lost, ready-grown, reason-inside, reason-free, word-free, ask-found, ask-lost}

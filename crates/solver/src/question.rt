@@ -1,6 +1,5 @@
 // One question to the search, as a quantifier over the last frame: a node like any other, at the place that the net keeps for it.
 use cube::Cube64;
-use judge::forward::ALL;
 use records::Counts;
 use search::Outcome;
 ghost use mathlib.Core.Path.{_≡_};
@@ -38,7 +37,7 @@ pub fn solve(
         own,
         node,
         cube,
-        ALL,
+        cube.mask | 1,
         cells,
         wants,
         under,

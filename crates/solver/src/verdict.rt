@@ -3,10 +3,11 @@ use crate::question::solve;
 use cube::Cube64;
 use records::Counts;
 use records::Found;
+use search::low;
 use words::w64;
 ghost use mathlib.Core.Path.{_≡_};
 ghost use mathlib.Core.List.{List};
-ghost use Prim.Native.Nat.{ℕ, _*_, _%_, _≤_};
+ghost use Prim.Native.Nat.{ℕ, _*_, _≤_};
 ghost use lib.ListN.{length};
 ghost use Rattle.formula.specs.Ask.{ask};
 ghost use Rattle.solver.specs.Contract.{root, Ready, TablesGrown, Promised, Same};
@@ -17,13 +18,6 @@ pub struct Answered {
     pub holds: bool,
     pub word: u64,
     pub kept: Counts,
-}
-
-// The part of a word that records speak of.
-fn low(word: u64) -> u32
-    ensures { λ r. ⌜ r ≡ word % 4294967296 ⌝ }
-{
-    (word % 4294967296) as u32
 }
 
 // Makes sure of a record of the frame that speaks of assigned variables only and agrees with the setting: the reason is put where none does.

@@ -6,19 +6,19 @@ use Rattle.judge.proofs.dirty.next.Statement.{statement}
 use Rattle.judge.proofs.dirty.next.Tie as tie
 
 abbrev Inv-loop : tie.InvT-loop
-Inv-loop dirty k a at₀ at = k ≤ at
+Inv-loop marks k a at₀ at = k ≤ at
 
 abbrev μ-loop : tie.MeasureT-loop
-μ-loop dirty k a at₀ at = a + 1 - at
+μ-loop marks k a at₀ at = a + 1 - at
 
 loop-holds : tie.Need-loop-holds Inv-loop μ-loop
 loop-holds c = omega arith
 
 mul-w : tie.Need-mul-w Inv-loop μ-loop
-mul-w c = omega (arith, c .before .before .pre)
+mul-w c = omega (arith, c .before .before .before .pre .0)
 
-element-copy-out-w : tie.Need-element-copy-out-w Inv-loop μ-loop
-element-copy-out-w c = omega (arith, c .before .before .pre)
+shared-slice-read-w : tie.Need-shared-slice-read-w Inv-loop μ-loop
+shared-slice-read-w c = omega (arith, c .before .before .before .before .pre .1)
 
 shr-w : tie.Need-shr-w Inv-loop μ-loop
 shr-w c = search needs
@@ -27,16 +27,16 @@ zeros-requires : tie.Need-zeros-requires Inv-loop μ-loop
 zeros-requires c κs = search needs
 
 add-result : tie.Need-add-result Inv-loop μ-loop
-add-result c = omega (arith, c .zeros .ensures, c .before .before .before .before .before .pre)
+add-result c = omega (arith, c .zeros .ensures, c .before .before .before .before .before .before .pre .0)
 
 returns : tie.Need-returns Inv-loop μ-loop
 returns c = omega (arith, c .before .before .before .before .loop .inv)
 
 add-at : tie.Need-add-at Inv-loop μ-loop
-add-at c = omega (arith, c .before .before .before .before .pre)
+add-at c = omega (arith, c .before .before .before .before .before .pre .0)
 
 mul-at : tie.Need-mul-at Inv-loop μ-loop
-mul-at c = omega (arith, c .before .before .before .before .pre)
+mul-at c = omega (arith, c .before .before .before .before .before .pre .0)
 
 loop-less : tie.Need-loop-less Inv-loop μ-loop
 loop-less c = omega arith
@@ -55,7 +55,7 @@ next-spec =
     μ-loop
     loop-holds
     mul-w
-    element-copy-out-w
+    shared-slice-read-w
     shr-w
     zeros-requires
     add-result

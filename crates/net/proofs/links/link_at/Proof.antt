@@ -9,14 +9,17 @@ use Rattle.net.proofs.links.link_at.Tie as tie
 node-at-requires : tie.Need-node-at-requires
 node-at-requires c κs = search needs
 
+link-variable-requires : tie.Need-link-variable-requires
+link-variable-requires c κs = search needs
+
 same-length : tie.Need-same-length
 same-length c = search needs
 
 returns : tie.Need-returns
 returns c = search needs
 
-link-variable-requires : tie.Need-link-variable-requires
-link-variable-requires c κs =
+link-variable-requires-2 : tie.Need-link-variable-requires-2
+link-variable-requires-2 c κs =
     let p = c .before .before .before .before .before .before .before .before .pre in
     (p .0, p .1, omega (arith, reads-low (p .0) (c .before .before .before .before .before .node-at .ensures .0) (omega arith)))
 
@@ -67,9 +70,10 @@ link-at-spec =
     tie.close
     (tie.spec
     node-at-requires
+    link-variable-requires
     same-length
     returns
-    link-variable-requires
+    link-variable-requires-2
     same-length-2
     returns-2
     link-left-requires

@@ -15,8 +15,8 @@ use Rattle.judge.specs.CellLaws.{trail-none}
 use Rattle.search.specs.SearchLaws.{checked-flip, checked-left, checked-right, recorded-told, lent-after, perNode, body-less}
 use Rattle.search.specs.SearchLaws.{told-met, told-missed, told-known, told-leaf, told-flip, told-left, told-right, told-both, told-shown}
 use Rattle.search.specs.SearchLaws.{known-found, known-lost, posed-cells, posed-checked, posed-half, half-less, posed-body}
-use Rattle.search.specs.ForceLaws.{forced-less, forced-found, posed-forced, pushed-lost}
-use Rattle.search.specs.Halves.{low-found, low-lost, high-found, high-lost, both-lost}
+use Rattle.imply.specs.ForceLaws.{forced-less, forced-found, posed-forced, pushed-lost}
+use Rattle.imply.specs.Halves.{low-found, low-lost, high-found, high-lost, both-lost}
 use Rattle.search.proofs.cycle.branch.Reads as branch
 use Rattle.search.proofs.cycle.branch.Kinds as branch-kinds
 use Rattle.search.proofs.cycle.+branch+candidate+check+choose+evaluate+extend+gate+push+quantified+settle.Lts-branch as branch-lts
@@ -57,8 +57,8 @@ use Rattle.net.proofs.node.decided.Reads as decided-reads
 use Rattle.net.proofs.node_at.Reads as node-at-reads
 use Rattle.search.proofs.cycle.body_shows.Reads as body-shows-reads
 use Rattle.search.proofs.cycle.leaf.Reads as leaf-reads
-use Rattle.search.proofs.force.force.Reads as force-reads
-use Rattle.search.proofs.force.gather.Reads as gather-reads
+use Rattle.imply.proofs.force.Reads as force-reads
+use Rattle.imply.proofs.gather.Reads as gather-reads
 use Rattle.search.proofs.kept.note.Reads as note-reads
 use Rattle.search.proofs.kept.recorded.Reads as recorded-reads
 use Rattle.words.proofs.w64.has.Reads as has-reads

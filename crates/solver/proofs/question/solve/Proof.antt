@@ -27,22 +27,22 @@ node-at-requires c κs =
 
 choose-requires-2 : tie.Need-choose-requires-2
 choose-requires-2 c κs =
-    let node-at° = c .before .before .before .before .before .node-at in
-    let pre° = c .before .before .before .before .before .before .before .before .before .before .before .before .before .before .before .before .before .before .pre in
-    let choose° = c .before .before .before .before .before .before .before .before .before .before .before .choose in
-    let frames° = c .before .before .before .before .before .before .before .frames in
+    let node-at° = c .before .before .before .before .before .before .node-at in
+    let pre° = c .before .before .before .before .before .before .before .before .before .before .before .before .before .before .before .before .before .before .before .pre in
+    let choose° = c .before .before .before .before .before .before .before .before .before .before .before .before .choose in
+    let frames° = c .before .before .before .before .before .before .before .before .frames in
     ((node-at° .ensures .0, asked-binds (pre° .1) (choose° .ensures) (frames° .ensures) (node-at° .ensures .0)), (asked-checked (pre° .1) (choose° .ensures) (frames° .ensures), asked-lent (pre° .1) (choose° .ensures)))
 
 forget-requires : tie.Need-forget-requires
 forget-requires c κs =
-    let pre° = c .before .before .before .before .before .before .before .before .before .before .before .before .before .before .before .before .before .before .before .before .before .before .before .before .before .before .before .before .pre in
-    let choose° = c .before .before .before .before .before .before .before .before .before .before .before .before .before .before .before .before .before .before .before .before .before .choose in
+    let pre° = c .before .before .before .before .before .before .before .before .before .before .before .before .before .before .before .before .before .before .before .before .before .before .before .before .before .before .before .before .before .pre in
+    let choose° = c .before .before .before .before .before .before .before .before .before .before .before .before .before .before .before .before .before .before .before .before .before .before .choose in
     asked-ground (pre° .1) (choose° .ensures)
 
 same-length : tie.Need-same-length
 same-length c =
-    let pre° = c .before .before .before .before .before .before .before .before .before .before .before .before .before .before .before .before .before .before .before .before .before .before .before .before .before .before .before .before .before .before .before .pre in
-    let choose° = c .before .before .before .before .before .before .before .before .before .before .before .before .before .before .before .before .before .before .before .before .before .before .before .before .choose in
+    let pre° = c .before .before .before .before .before .before .before .before .before .before .before .before .before .before .before .before .before .before .before .before .before .before .before .before .before .before .before .before .before .before .before .before .pre in
+    let choose° = c .before .before .before .before .before .before .before .before .before .before .before .before .before .before .before .before .before .before .before .before .before .before .before .before .before .choose in
     let forget° = c .before .before .forget in
     ap length (forgotten-back (pre° .1 .net-of) (choose° .ensures) (forget° .ensures))
 
@@ -68,10 +68,10 @@ same-length-5 c =
 
 returns : tie.Need-returns
 returns c =
-    let pre° = c .before .before .before .before .before .before .before .before .before .before .before .before .before .before .before .before .before .before .before .before .before .before .before .before .before .before .before .before .before .before .before .pre in
-    let choose° = c .before .before .before .before .before .before .before .before .before .before .before .before .before .before .before .before .before .before .before .before .before .before .before .before .choose in
-    let frames° = c .before .before .before .before .before .before .before .before .before .before .before .before .before .before .before .before .before .before .before .before .frames in
-    let node-at° = c .before .before .before .before .before .before .before .before .before .before .before .before .before .before .before .before .before .before .node-at in
+    let pre° = c .before .before .before .before .before .before .before .before .before .before .before .before .before .before .before .before .before .before .before .before .before .before .before .before .before .before .before .before .before .before .before .before .pre in
+    let choose° = c .before .before .before .before .before .before .before .before .before .before .before .before .before .before .before .before .before .before .before .before .before .before .before .before .before .choose in
+    let frames° = c .before .before .before .before .before .before .before .before .before .before .before .before .before .before .before .before .before .before .before .before .before .frames in
+    let node-at° = c .before .before .before .before .before .before .before .before .before .before .before .before .before .before .before .before .before .before .before .node-at in
     let choose2° = c .before .before .before .before .before .before .before .before .before .before .before .before .choose2 in
     let forget° = c .before .before .forget in (
       asked-solved (pre° .1) (choose° .ensures) (frames° .ensures) (node-at° .ensures .0) (choose2° .result .found) (choose2° .result .word) (choose2° .result .reason) (choose2° .ensures .0 .0),
