@@ -14,6 +14,9 @@ ghost use Rattle.net.specs.Layout.{HasNode, Ground};
 ghost use Rattle.judge.specs.Cells.{HasCell};
 ghost use Rattle.judge.specs.Judge.{Judged, Right, RightInput, Negated, Joined, Bound, Judging};
 
+// Every variable, as a mask: all nodes are to be judged.
+pub const ALL: u64 = 18446744073709551615;
+
 pub fn variable(left: usize) -> u8
     requires { ⌜ left < 64 ⌝ }
     ensures { λ r. ⌜ r ≡ left ⌝ }
@@ -160,6 +163,20 @@ fn judge_next(net: &[u64], k: usize, cube: Cube64, cells: &mut [u64], head: u16)
     cells::put(cells, k, known, head)
 }
 
+// What is known of the nodes 0 to a under the cube; what is known already stays.
+fn judge_all(net: &[u64], a: usize, cube: Cube64, cells: &mut [u64], head: u16) -> u16
+    requires { ⌜ Ground (now net) × HasNode (now net) a × Judged (now net) (cube .mask) (cube .values) (now cells) ⌝ }
+    ensures { λ r. ⌜ Judging (now (net .entry)) (cube .mask) (cube .values) (now (cells .entry)) head (now (cells .exit)) r ⌝ }
+{
+    let mut k: usize = 0;
+    let mut at = head;
+    while k <= a {
+        at = judge_next(net, k, cube, cells, at);
+        k += 1;
+    }
+    at
+}
+
 // The nodes that name node k are to be judged, if it was set.
 fn spread(net: &[u64], k: usize, a: usize, set: bool, marks: &mut [u64])
     requires { ⌜ Ground (now net) × HasNode (now net) k × (a < 64 * length (now marks)) ⌝ }
@@ -169,7 +186,7 @@ fn spread(net: &[u64], k: usize, a: usize, set: bool, marks: &mut [u64])
     }
 }
 
-// What is known of the nodes up to a under the cube, of those that the fresh variables may have touched; what is known already stays. The marks are empty.
+// The same, of nodes that the fresh variables may have touched. The marks are empty.
 fn judge_marked(
     net: &[u64],
     a: usize,
@@ -194,11 +211,14 @@ fn judge_marked(
     at
 }
 
-// The same, with marks for a net of that size.
+// The nodes are judged: those that the fresh variables may have touched, or all of them.
 pub fn judge(net: &[u64], a: usize, fresh: u64, cube: Cube64, cells: &mut [u64], head: u16) -> u16
     requires { ⌜ Ground (now net) × HasNode (now net) a × Judged (now net) (cube .mask) (cube .values) (now cells) ⌝ }
     ensures { λ r. ⌜ Judging (now (net .entry)) (cube .mask) (cube .values) (now (cells .entry)) head (now (cells .exit)) r ⌝ }
 {
+    if fresh == ALL {
+        return judge_all(net, a, cube, cells, head);
+    }
     if a < 256 {
         let mut few = [0u64; 4];
         return judge_marked(net, a, fresh, cube, cells, head, &mut few);

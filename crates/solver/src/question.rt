@@ -1,5 +1,6 @@
 // One question to the search, as a quantifier over the last frame: a node like any other, at the place that the net keeps for it.
 use cube::Cube64;
+use judge::forward::ALL;
 use records::Counts;
 use search::Outcome;
 ghost use mathlib.Core.Path.{_≡_};
@@ -10,6 +11,17 @@ ghost use Rattle.records.specs.Both.{TablesGrown};
 ghost use Rattle.net.specs.Layout.{framesOf, formulaAt};
 ghost use Rattle.search.specs.Search.{Solved};
 ghost use Rattle.solver.specs.Question.{Asking};
+
+// So many assigned variables touch most nodes.
+const MANY: u32 = 8;
+
+// The variables that judging begins with: all, where many are assigned; else these, and variable 0, among whose readers the constants stand.
+fn fresh(assigned: u64) -> u64 {
+    if u64::count_ones(assigned) > MANY {
+        return ALL;
+    }
+    assigned | 1
+}
 
 // Can the loose variables, those of the last frame that the cube does not fix, be assigned so that it has the target's truth? The net and the cells are as
 // before after it.
@@ -37,7 +49,7 @@ pub fn solve(
         own,
         node,
         cube,
-        cube.mask | 1,
+        fresh(cube.mask),
         cells,
         wants,
         under,

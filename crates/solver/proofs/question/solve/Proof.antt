@@ -1,5 +1,6 @@
 -- `solver::question::solve` meets its contract: the search of the quantifier that the question put behind the frames. Assumes nothing.
 use native.Mathlib.Omega.{arith}
+use borrow.Author.Needs.{needs}
 use mathlib.Core.Path.{ap}
 use lib.ListN.{length}
 use Rattle.net.specs.OwnLaws.{forgotten-back}
@@ -24,6 +25,9 @@ node-at-requires c κs =
     let pre° = c .before .before .before .before .before .before .before .before .before .before .before .before .pre in
     let choose° = c .before .before .before .before .before .choose in
     rw (frames° .ensures) (asked-ground (pre° .1) (choose° .ensures) .room)
+
+fresh-requires : tie.Need-fresh-requires
+fresh-requires c κs = search needs
 
 choose-requires-2 : tie.Need-choose-requires-2
 choose-requires-2 c κs =
@@ -85,6 +89,7 @@ solve-spec =
     choose-requires
     frames-requires
     node-at-requires
+    fresh-requires
     choose-requires-2
     forget-requires
     same-length
