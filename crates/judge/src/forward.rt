@@ -11,7 +11,7 @@ ghost use mathlib.Core.List.{List};
 ghost use Prim.Native.Nat.{ℕ, _*_, _<_, _≤_};
 ghost use lib.ListN.{length};
 ghost use Rattle.net.specs.Layout.{HasNode, Ground};
-ghost use Rattle.judge.specs.Cells.{HasCell};
+ghost use Rattle.judge.specs.Cells.{HasCell, Vacant};
 ghost use Rattle.judge.specs.Judge.{Judged, Right, RightInput, Negated, Joined, Bound, Judging};
 
 // Every variable, as a mask: all nodes are to be judged.
@@ -148,14 +148,11 @@ pub fn keep(cells: &mut [u64], k: usize, known: Known, head: u16) -> u16
     head
 }
 
-// Node k is judged where nothing is known of it yet.
-fn judge_next(net: &[u64], k: usize, cube: Cube64, cells: &mut [u64], head: u16) -> u16
-    requires { ⌜ Ground (now net) × HasNode (now net) k × Judged (now net) (cube .mask) (cube .values) (now cells) ⌝ }
+// Node k, of which nothing is known, is judged.
+fn judge_vacant(net: &[u64], k: usize, cube: Cube64, cells: &mut [u64], head: u16) -> u16
+    requires { ⌜ Ground (now net) × HasNode (now net) k × Judged (now net) (cube .mask) (cube .values) (now cells) × Vacant (now cells) k ⌝ }
     ensures { λ r. ⌜ Judging (now (net .entry)) (cube .mask) (cube .values) (now (cells .entry)) head (now (cells .exit)) r ⌝ }
 {
-    if !cells::vacant(&cells[..], k) {
-        return head;
-    }
     let known = judge_node(net, k, cube, &cells[..]);
     if known.value == 0 {
         return head;
@@ -163,7 +160,18 @@ fn judge_next(net: &[u64], k: usize, cube: Cube64, cells: &mut [u64], head: u16)
     cells::put(cells, k, known, head)
 }
 
-// What is known of the nodes 0 to a under the cube; what is known already stays.
+// Node k is judged where nothing is known of it yet.
+fn judge_next(net: &[u64], k: usize, cube: Cube64, cells: &mut [u64], head: u16) -> u16
+    requires { ⌜ Ground (now net) × HasNode (now net) k × Judged (now net) (cube .mask) (cube .values) (now cells) ⌝ }
+    ensures { λ r. ⌜ Judging (now (net .entry)) (cube .mask) (cube .values) (now (cells .entry)) head (now (cells .exit)) r ⌝ }
+{
+    if cells::vacant(&cells[..], k) {
+        return judge_vacant(net, k, cube, cells, head);
+    }
+    head
+}
+
+// What is known of the nodes 0 to a under the cube; what is known already stays. The test stands in the loop, where most nodes need no call.
 fn judge_all(net: &[u64], a: usize, cube: Cube64, cells: &mut [u64], head: u16) -> u16
     requires { ⌜ Ground (now net) × HasNode (now net) a × Judged (now net) (cube .mask) (cube .values) (now cells) ⌝ }
     ensures { λ r. ⌜ Judging (now (net .entry)) (cube .mask) (cube .values) (now (cells .entry)) head (now (cells .exit)) r ⌝ }
@@ -171,7 +179,9 @@ fn judge_all(net: &[u64], a: usize, cube: Cube64, cells: &mut [u64], head: u16) 
     let mut k: usize = 0;
     let mut at = head;
     while k <= a {
-        at = judge_next(net, k, cube, cells, at);
+        if cells::vacant(&cells[..], k) {
+            at = judge_vacant(net, k, cube, cells, at);
+        }
         k += 1;
     }
     at
