@@ -24,7 +24,8 @@ word-both d r q F G = explains-mask (gate-both d F G) (bit (bitOr r q)) (λ k. s
 
 -- ---- quantifiers
 
-within-range : (b c k : ℕ) → bit (rangeMask b c) k ≡ within b c k
+-- a range, as a word
+pub within-range : (b c k : ℕ) → bit (rangeMask b c) k ≡ within b c k
 unfolding within
 within-range b c k = bit-rangeMask b c k
 

@@ -49,9 +49,6 @@ lost-at {w = w} {r = r} h d z i =
 -- ---- the two halves of the highest loose variable x
 
 module _ {loose x w : ℕ} (t : Top loose x) (d : Apart w loose) where
-  pub rest-less : without loose (2 ^ x) < loose
-  rest-less = omega (arith, top-rest t, t .reach)
-
   rest-sub : Sub (without loose (2 ^ x)) loose
   rest-sub = without-sub loose (2 ^ x)
 

@@ -5,11 +5,12 @@ use mathlib.Core.Bool.{Bool, true, false, not, _&&_, _||_}
 use Rattle.words.specs.Mask.{rangeMask}
 use Rattle.formula.specs.Assignment.{Assignment, join, sweep}
 use Rattle.formula.specs.Formula.{Formula, truth, free}
+use Rattle.formula.specs.ReasonWord.{within-range}
 use Rattle.sheet.specs.declared.Kind.{Kind}
 use Rattle.sheet.specs.declared.Kind.the-variants.{Never, Input, Not, And, Or, Exists, Forall}
 use Rattle.sheet.specs.Frames.{formulaOf, formula-is}
 use Rattle.sheet.specs.Frames as Sheet
-use Rattle.net.specs.Over.{Beside, over, over-free, over-same, over-range, bit-range-within}
+use Rattle.net.specs.Over.{Beside, over, over-free, over-same, over-range}
 use Rattle.net.specs.Net.{Node, Fixed, Reads, Flips, Joins, Binds, Net, build, meaning, value, frees, Fit, Ordered, meaning-is, upward}
 
 unfoldable pub nodeOfKind : Kind → Node
@@ -78,5 +79,5 @@ module _ (w : ℕ) (κ : ℕ → Kind) (o : Sheet.Ordered w κ) where
       go k h x (Not a) f = h a f x
       go k h x (And a b) f = ap₂ _||_ (h a (f .0) x) (h b (f .1) x)
       go k h x (Or a b) f = ap₂ _||_ (h a (f .0) x) (h b (f .1) x)
-      go k h x (Exists a b c) f = over-free true (rangeMask b c) (meaning (decoded κ) a) x ∙ rw (h a (f .0) x, bit-range-within b c x)
-      go k h x (Forall a b c) f = over-free false (rangeMask b c) (meaning (decoded κ) a) x ∙ rw (h a (f .0) x, bit-range-within b c x)
+      go k h x (Exists a b c) f = over-free true (rangeMask b c) (meaning (decoded κ) a) x ∙ rw (h a (f .0) x, within-range b c x)
+      go k h x (Forall a b c) f = over-free false (rangeMask b c) (meaning (decoded κ) a) x ∙ rw (h a (f .0) x, within-range b c x)

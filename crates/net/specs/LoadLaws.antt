@@ -12,13 +12,13 @@ use Rattle.words.specs.Logic.{by-bool, clash, tests}
 use Rattle.words.specs.Word.{bit}
 use Rattle.words.specs.Mask.{rangeMask, apart-bits}
 use Rattle.formula.specs.Ask.{bit-free}
+use Rattle.formula.specs.ReasonWord.{within-range}
 use Rattle.sheet.specs.declared.Kind.{Kind}
 use Rattle.sheet.specs.declared.Kind.the-variants.{Never, Input, Not, And, Or, Exists, Forall}
 use Rattle.sheet.specs.Frames.{frames, kind, kind-past}
 use Rattle.sheet.specs.Frames as Sheet
 use Rattle.sheet.specs.Rules.{variables, binds}
 use Rattle.sheet.specs.Accepted.{ordered-bounded}
-use Rattle.net.specs.Over.{bit-range-within}
 use Rattle.net.specs.Net.{Fixed, Binds, Net, fit-at, replace-here, replace-other, Ranged, Clear, Distinct}
 use Rattle.net.specs.Decode.{nodeOfKind, decoded, decoded-ordered, decoded-value, decoded-free}
 use Rattle.net.specs.Layout.{firstWord, secondWord, unpack, packed}
@@ -75,8 +75,8 @@ mask-binds (Input y) e v = absurd (let z : _≡_ {A = ℕ} 0 1 = cc in omega ari
 mask-binds (Not a) e v = absurd (let z : _≡_ {A = ℕ} 0 1 = cc in omega arith)
 mask-binds (And a b) e v = absurd (let z : _≡_ {A = ℕ} 0 1 = cc in omega arith)
 mask-binds (Or a b) e v = absurd (let z : _≡_ {A = ℕ} 0 1 = cc in omega arith)
-mask-binds (Exists a b c) {d} {m} {x} e v = let z : rangeMask b c ≡ m = cc in ap (λ (w : ℕ). bit w v) (sym z) ∙ bit-range-within b c v
-mask-binds (Forall a b c) {d} {m} {x} e v = let z : rangeMask b c ≡ m = cc in ap (λ (w : ℕ). bit w v) (sym z) ∙ bit-range-within b c v
+mask-binds (Exists a b c) {d} {m} {x} e v = let z : rangeMask b c ≡ m = cc in ap (λ (w : ℕ). bit w v) (sym z) ∙ within-range b c v
+mask-binds (Forall a b c) {d} {m} {x} e v = let z : rangeMask b c ≡ m = cc in ap (λ (w : ℕ). bit w v) (sym z) ∙ within-range b c v
 
 -- a frame that binds a variable is one of the sheet's
 binds-in : (s : List ℕ) (k v : ℕ) → binds (kind s k) v ≡ true → k < frames s

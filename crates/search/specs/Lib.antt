@@ -1,5 +1,2 @@
-pub mod Kept
 pub mod Search
 pub mod SearchLaws
-pub mod Lookahead
-pub mod LookaheadLaws

@@ -1,19 +1,17 @@
 -- What the search over a net is asked and finds: the contracts of source 000's two functions. Assumes nothing.
-use Prim.Native.Nat.{ℕ, _+_, _-_, _≤_, _<_, _^_}
+use Prim.Native.Nat.{ℕ, _+_, _≤_, _<_, _^_}
 use mathlib.Core.Path.{_≡_}
-use mathlib.Core.Bool.{Bool, true, false, not}
+use mathlib.Core.Bool.{Bool, true, false}
 use mathlib.Core.List.{List}
 use lib.ListN.{length}
-use lib.Bits.{bitOr}
 use Rattle.words.specs.Word.{bit}
-use Rattle.words.specs.Mask.{Sub, Apart, without}
-use Rattle.formula.specs.Formula.{Formula, truth, free}
-use Rattle.formula.specs.Reason.{Explains}
+use Rattle.formula.specs.Formula.{truth}
 use Rattle.records.specs.Both.{Tables}
 use Rattle.net.specs.Net.{Clear}
-use Rattle.net.specs.Layout.{framesOf, packed, formulaAt, val, decides, Ground}
-use Rattle.judge.specs.Judge.{Forced, Judged}
+use Rattle.net.specs.Layout.{framesOf, packed, formulaAt, val, Ground}
+use Rattle.judge.specs.Judge.{Judged}
 pub use Rattle.imply.specs.Posed.{Found, Lost, Free, Covers, Posed}
+pub use Rattle.proxies.specs.Told.{Told}
 
 -- node a is searched for the truth t over the variables of `loose`
 abbrev pub Solved : List ℕ → ℕ → ℕ → ℕ → ℕ → Bool → ℕ → ℕ → Type 0
@@ -33,11 +31,6 @@ pub record Checked (net : List ℕ) (i m w : ℕ) (cells : List ℕ) : Type 0 wh
   pub clear : Clear (packed net) i m
   pub judged : Judged net m w cells
 
--- the value v of node i under the full candidate w, because of the variables of r
-pub record Told (net : List ℕ) (m w i v r : ℕ) : Type 0 where
-  pub some : 0 < v
-  pub forced : Forced net m w i v r
-
 -- what a leaf has under the word w
 pub record Leaf (op left w v r : ℕ) : Type 0 where
   pub some : 0 < v
@@ -45,10 +38,3 @@ pub record Leaf (op left w v r : ℕ) : Type 0 where
   pub never : op ≡ 0 → (v ≡ 1) × (r ≡ 0)
   pub always : op ≡ 1 → (v ≡ 2) × (r ≡ 0)
   pub reads : op ≡ 2 → (val v ≡ bit w left) × (r ≡ 2 ^ left)
-
--- a quantifier's value v and reason r, from what the search of its body found
-pub record Shown (op mask : ℕ) (found : Bool) (reason v r : ℕ) : Type 0 where
-  pub some : 0 < v
-  pub low : v < 3
-  pub met : found ≡ true → (v ≡ decides op) × (r ≡ without reason mask)
-  pub missed : found ≡ false → (v ≡ 3 - decides op) × (r ≡ reason)

@@ -1,7 +1,5 @@
 // The functions that call each other on falling node numbers. Source 000's subtreeIsSolved is `choose` with `extend`, `settle`, `push`, `branch` and
 // `candidate`; its solutionForallChildren is `check` with `evaluate`, `gate` and `quantified`.
-use crate::kept::note;
-use crate::kept::recorded;
 use cube::Cube64;
 use judge::Known;
 use judge::cells;
@@ -10,18 +8,20 @@ use judge::known_at;
 use net::Node;
 use net::node::decided;
 use net::node_at;
+use proxies::body_shows;
+use proxies::note;
+use proxies::recorded;
 use records::Counts;
 use words::w64;
 ghost use mathlib.Core.Path.{_≡_};
 ghost use Prim.Native.Nat.{ℕ, _<_, _≤_};
-ghost use lib.ListN.{length};
 ghost use Rattle.words.specs.Mask as Mask;
 ghost use Rattle.records.specs.Both.{TablesGrown};
 ghost use Rattle.sheet.specs.Rules.{variables};
 ghost use Rattle.net.specs.Layout.{framesOf, formulaAt, Is, decides};
 ghost use Rattle.judge.specs.Judge.{Judging};
-ghost use Rattle.search.specs.Kept.{Noted};
-ghost use Rattle.search.specs.Search.{Posed, Solved, Checked, Told, Leaf, Shown, Lent};
+ghost use Rattle.proxies.specs.Kept.{Noted};
+ghost use Rattle.search.specs.Search.{Posed, Solved, Checked, Told, Leaf, Lent};
 
 // What a search found: a word with its reason, or that there is none with the reason. And how many records each table then holds.
 pub struct Outcome {
@@ -56,7 +56,7 @@ pub fn choose(
     requires { ⌜ Is (now net) i (node .op) (node .left) (node .right) (node .mask) × (6 ≤ node .op) ⌝ }
     requires { ⌜ Checked (now net) i (cube .mask) (cube .values) (now cells) ⌝ }
     requires { ⌜ Lent (now net) (now wants) (now under) (kept .under) (now over) (kept .over) ⌝ }
-    ensures { λ r. ⌜ Solved (now (net .entry)) (node .left) (decides (node .op)) (node .mask) (Mask.without (cube .values) (node .mask)) (r .found) (r .word) (r .reason) × (now (cells .exit) ≡ now (cells .entry)) × (length (now (wants .exit)) ≡ length (now (wants .entry))) ⌝ }
+    ensures { λ r. ⌜ Solved (now (net .entry)) (node .left) (decides (node .op)) (node .mask) (Mask.without (cube .values) (node .mask)) (r .found) (r .word) (r .reason) × (now (cells .exit) ≡ now (cells .entry)) ⌝ }
     ensures { λ r. ⌜ TablesGrown (formulaAt (now (net .entry))) (framesOf (now (net .entry))) (now (under .entry)) (kept .under) (now (over .entry)) (kept .over) (now (under .exit)) (r .kept .under) (now (over .exit)) (r .kept .over) ⌝ }
 {
     let inner = cube.free_all(node.mask);
@@ -76,6 +76,22 @@ pub fn choose(
     )
 }
 
+// The last variable is tried without a look for what it is forced to, and with it most of what is unknown comes to be known. Only the time depends on this.
+fn few(loose: u64) -> bool {
+    u64::count_ones(loose) < 2
+}
+
+// The variables that judging begins with: those that were fixed, or all where few are left loose.
+fn begin(fresh: u64, loose: u64) -> u64 {
+    if fresh == 0 {
+        return 0;
+    }
+    if few(loose) {
+        return forward::ALL;
+    }
+    fresh
+}
+
 // The same for node a, any truth and any loose variables. How much is judged depends on `fresh`, and nothing else does.
 fn extend(
     net: &[u64],
@@ -92,10 +108,11 @@ fn extend(
 ) -> Outcome
     requires { ⌜ Posed (now net) a target loose (cube .mask) (cube .values) (now cells) ⌝ }
     requires { ⌜ Lent (now net) (now wants) (now under) (kept .under) (now over) (kept .over) ⌝ }
-    ensures { λ r. ⌜ Solved (now (net .entry)) a target loose (cube .values) (r .found) (r .word) (r .reason) × (now (cells .exit) ≡ now (cells .entry)) × (length (now (wants .exit)) ≡ length (now (wants .entry))) ⌝ }
+    ensures { λ r. ⌜ Solved (now (net .entry)) a target loose (cube .values) (r .found) (r .word) (r .reason) × (now (cells .exit) ≡ now (cells .entry)) ⌝ }
     ensures { λ r. ⌜ TablesGrown (formulaAt (now (net .entry))) (framesOf (now (net .entry))) (now (under .entry)) (kept .under) (now (over .entry)) (kept .over) (now (under .exit)) (r .kept .under) (now (over .exit)) (r .kept .over) ⌝ }
 {
-    let head = forward::judge(net, a, fresh, cube, cells, cells::END);
+    let touched = begin(fresh, loose);
+    let head = forward::judge(net, a, touched, cube, cells, cells::END);
     let out = settle(net, a, target, loose, cube, cells, wants, under, over, kept);
     cells::undo(cells, head);
     out
@@ -116,7 +133,7 @@ fn settle(
 ) -> Outcome
     requires { ⌜ Posed (now net) a target loose (cube .mask) (cube .values) (now cells) ⌝ }
     requires { ⌜ Lent (now net) (now wants) (now under) (kept .under) (now over) (kept .over) ⌝ }
-    ensures { λ r. ⌜ Solved (now (net .entry)) a target loose (cube .values) (r .found) (r .word) (r .reason) × (now (cells .exit) ≡ now (cells .entry)) × (length (now (wants .exit)) ≡ length (now (wants .entry))) ⌝ }
+    ensures { λ r. ⌜ Solved (now (net .entry)) a target loose (cube .values) (r .found) (r .word) (r .reason) × (now (cells .exit) ≡ now (cells .entry)) ⌝ }
     ensures { λ r. ⌜ TablesGrown (formulaAt (now (net .entry))) (framesOf (now (net .entry))) (now (under .entry)) (kept .under) (now (over .entry)) (kept .over) (now (under .exit)) (r .kept .under) (now (over .exit)) (r .kept .over) ⌝ }
 {
     let known = known_at(&cells[..], a);
@@ -139,6 +156,9 @@ fn settle(
     if loose == 0 {
         return candidate(net, a, target, cube, cells, wants, under, over, kept);
     }
+    if few(loose) {
+        return branch(net, a, target, loose, cube, cells, wants, under, over, kept);
+    }
     push(net, a, target, loose, cube, cells, wants, under, over, kept)
 }
 
@@ -158,7 +178,7 @@ fn push(
     requires { ⌜ 0 < loose ⌝ }
     requires { ⌜ Posed (now net) a target loose (cube .mask) (cube .values) (now cells) ⌝ }
     requires { ⌜ Lent (now net) (now wants) (now under) (kept .under) (now over) (kept .over) ⌝ }
-    ensures { λ r. ⌜ Solved (now (net .entry)) a target loose (cube .values) (r .found) (r .word) (r .reason) × (now (cells .exit) ≡ now (cells .entry)) × (length (now (wants .exit)) ≡ length (now (wants .entry))) ⌝ }
+    ensures { λ r. ⌜ Solved (now (net .entry)) a target loose (cube .values) (r .found) (r .word) (r .reason) × (now (cells .exit) ≡ now (cells .entry)) ⌝ }
     ensures { λ r. ⌜ TablesGrown (formulaAt (now (net .entry))) (framesOf (now (net .entry))) (now (under .entry)) (kept .under) (now (over .entry)) (kept .over) (now (under .exit)) (r .kept .under) (now (over .exit)) (r .kept .over) ⌝ }
 {
     let mut whys = [0u64; 64];
@@ -213,7 +233,7 @@ fn branch(
     requires { ⌜ 0 < loose ⌝ }
     requires { ⌜ Posed (now net) a target loose (cube .mask) (cube .values) (now cells) ⌝ }
     requires { ⌜ Lent (now net) (now wants) (now under) (kept .under) (now over) (kept .over) ⌝ }
-    ensures { λ r. ⌜ Solved (now (net .entry)) a target loose (cube .values) (r .found) (r .word) (r .reason) × (now (cells .exit) ≡ now (cells .entry)) × (length (now (wants .exit)) ≡ length (now (wants .entry))) ⌝ }
+    ensures { λ r. ⌜ Solved (now (net .entry)) a target loose (cube .values) (r .found) (r .word) (r .reason) × (now (cells .exit) ≡ now (cells .entry)) ⌝ }
     ensures { λ r. ⌜ TablesGrown (formulaAt (now (net .entry))) (framesOf (now (net .entry))) (now (under .entry)) (kept .under) (now (over .entry)) (kept .over) (now (under .exit)) (r .kept .under) (now (over .exit)) (r .kept .over) ⌝ }
 {
     let x = w64::highest(loose);
@@ -283,7 +303,7 @@ fn candidate(
 ) -> Outcome
     requires { ⌜ Posed (now net) a target 0 (cube .mask) (cube .values) (now cells) ⌝ }
     requires { ⌜ Lent (now net) (now wants) (now under) (kept .under) (now over) (kept .over) ⌝ }
-    ensures { λ r. ⌜ Solved (now (net .entry)) a target 0 (cube .values) (r .found) (r .word) (r .reason) × (now (cells .exit) ≡ now (cells .entry)) × (length (now (wants .exit)) ≡ length (now (wants .entry))) ⌝ }
+    ensures { λ r. ⌜ Solved (now (net .entry)) a target 0 (cube .values) (r .found) (r .word) (r .reason) × (now (cells .exit) ≡ now (cells .entry)) ⌝ }
     ensures { λ r. ⌜ TablesGrown (formulaAt (now (net .entry))) (framesOf (now (net .entry))) (now (under .entry)) (kept .under) (now (over .entry)) (kept .over) (now (under .exit)) (r .kept .under) (now (over .exit)) (r .kept .over) ⌝ }
 {
     let c = check(net, a, cube, cells, wants, cells::END, under, over, kept);
@@ -320,7 +340,7 @@ fn check(
 ) -> Valued
     requires { ⌜ (i < framesOf (now net)) × Checked (now net) i (cube .mask) (cube .values) (now cells) ⌝ }
     requires { ⌜ Lent (now net) (now wants) (now under) (kept .under) (now over) (kept .over) ⌝ }
-    ensures { λ r. ⌜ Told (now (net .entry)) (cube .mask) (cube .values) i (r .value) (r .reason) × Judging (now (net .entry)) (cube .mask) (cube .values) (now (cells .entry)) head (now (cells .exit)) (r .head) × (length (now (wants .exit)) ≡ length (now (wants .entry))) ⌝ }
+    ensures { λ r. ⌜ Told (now (net .entry)) (cube .mask) (cube .values) i (r .value) (r .reason) × Judging (now (net .entry)) (cube .mask) (cube .values) (now (cells .entry)) head (now (cells .exit)) (r .head) ⌝ }
     ensures { λ r. ⌜ TablesGrown (formulaAt (now (net .entry))) (framesOf (now (net .entry))) (now (under .entry)) (kept .under) (now (over .entry)) (kept .over) (now (under .exit)) (r .kept .under) (now (over .exit)) (r .kept .over) ⌝ }
 {
     let known = known_at(&cells[..], i);
@@ -390,7 +410,7 @@ fn evaluate(
 ) -> Valued
     requires { ⌜ (i < framesOf (now net)) × Checked (now net) i (cube .mask) (cube .values) (now cells) ⌝ }
     requires { ⌜ Lent (now net) (now wants) (now under) (kept .under) (now over) (kept .over) ⌝ }
-    ensures { λ r. ⌜ Told (now (net .entry)) (cube .mask) (cube .values) i (r .value) (r .reason) × Judging (now (net .entry)) (cube .mask) (cube .values) (now (cells .entry)) head (now (cells .exit)) (r .head) × (length (now (wants .exit)) ≡ length (now (wants .entry))) ⌝ }
+    ensures { λ r. ⌜ Told (now (net .entry)) (cube .mask) (cube .values) i (r .value) (r .reason) × Judging (now (net .entry)) (cube .mask) (cube .values) (now (cells .entry)) head (now (cells .exit)) (r .head) ⌝ }
     ensures { λ r. ⌜ TablesGrown (formulaAt (now (net .entry))) (framesOf (now (net .entry))) (now (under .entry)) (kept .under) (now (over .entry)) (kept .over) (now (under .exit)) (r .kept .under) (now (over .exit)) (r .kept .over) ⌝ }
 {
     let node = node_at(net, i);
@@ -436,7 +456,7 @@ fn gate(
     requires { ⌜ Is (now net) i (node .op) (node .left) (node .right) (node .mask) × (4 ≤ node .op) × (node .op < 6) ⌝ }
     requires { ⌜ (i < framesOf (now net)) × Checked (now net) i (cube .mask) (cube .values) (now cells) ⌝ }
     requires { ⌜ Lent (now net) (now wants) (now under) (kept .under) (now over) (kept .over) ⌝ }
-    ensures { λ r. ⌜ Told (now (net .entry)) (cube .mask) (cube .values) i (r .value) (r .reason) × Judging (now (net .entry)) (cube .mask) (cube .values) (now (cells .entry)) head (now (cells .exit)) (r .head) × (length (now (wants .exit)) ≡ length (now (wants .entry))) ⌝ }
+    ensures { λ r. ⌜ Told (now (net .entry)) (cube .mask) (cube .values) i (r .value) (r .reason) × Judging (now (net .entry)) (cube .mask) (cube .values) (now (cells .entry)) head (now (cells .exit)) (r .head) ⌝ }
     ensures { λ r. ⌜ TablesGrown (formulaAt (now (net .entry))) (framesOf (now (net .entry))) (now (under .entry)) (kept .under) (now (over .entry)) (kept .over) (now (under .exit)) (r .kept .under) (now (over .exit)) (r .kept .over) ⌝ }
 {
     let d = node.op - 3;
@@ -484,7 +504,7 @@ fn quantified(
     requires { ⌜ Is (now net) i (node .op) (node .left) (node .right) (node .mask) × (6 ≤ node .op) ⌝ }
     requires { ⌜ (i < framesOf (now net)) × Checked (now net) i (cube .mask) (cube .values) (now cells) ⌝ }
     requires { ⌜ Lent (now net) (now wants) (now under) (kept .under) (now over) (kept .over) ⌝ }
-    ensures { λ r. ⌜ Told (now (net .entry)) (cube .mask) (cube .values) i (r .value) (r .reason) × Judging (now (net .entry)) (cube .mask) (cube .values) (now (cells .entry)) head (now (cells .exit)) (r .head) × (length (now (wants .exit)) ≡ length (now (wants .entry))) ⌝ }
+    ensures { λ r. ⌜ Told (now (net .entry)) (cube .mask) (cube .values) i (r .value) (r .reason) × Judging (now (net .entry)) (cube .mask) (cube .values) (now (cells .entry)) head (now (cells .exit)) (r .head) ⌝ }
     ensures { λ r. ⌜ TablesGrown (formulaAt (now (net .entry))) (framesOf (now (net .entry))) (now (under .entry)) (kept .under) (now (over .entry)) (kept .over) (now (under .exit)) (r .kept .under) (now (over .exit)) (r .kept .over) ⌝ }
     ensures { λ r. ⌜ Noted i (r .value) (cube .values) (now (under .exit)) (r .kept .under) (now (over .exit)) (r .kept .over) ⌝ }
 {
@@ -506,22 +526,5 @@ fn quantified(
         reason: shown.reason,
         head,
         kept: after,
-    }
-}
-
-// What the search of its body shows of a quantifier.
-fn body_shows(node: Node, found: bool, reason: u64) -> Known
-    ensures { λ r. ⌜ Shown (node .op) (node .mask) found reason (r .value) (r .reason) ⌝ }
-{
-    let d = decided(node.op);
-    if found {
-        return Known {
-            value: d,
-            reason: w64::without(reason, node.mask),
-        };
-    }
-    Known {
-        value: 3 - d,
-        reason,
     }
 }

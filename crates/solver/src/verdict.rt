@@ -1,9 +1,9 @@
 // ASK: whether the free variables that are not entered can be chosen so that the sheet holds, and the smallest choice.
 use crate::question::solve;
 use cube::Cube64;
+use proxies::low;
 use records::Counts;
 use records::Found;
-use search::low;
 use words::w64;
 ghost use mathlib.Core.Path.{_≡_};
 ghost use mathlib.Core.List.{List};

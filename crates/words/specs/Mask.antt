@@ -150,6 +150,10 @@ top-rest {f} {j} t =
     rest : (k : ℕ) → (bit f k && bit (2 ^ j) k) ≡ bit (2 ^ j) k
     rest k = ap (λ (p : Bool). bit f k && p) (bit-pow j k) ∙ go k (eqb k j) refl ∙ sym (bit-pow j k)
 
+-- and so smaller
+pub top-less : {f x p rest : ℕ} → Top f x → p ≡ 2 ^ x → rest ≡ without f p → rest < f
+top-less T ep er = rw (er, ep) (omega (arith, top-rest T .0, top-rest T .1))
+
 -- ---- the machine's shifts, at n bits
 
 -- `1 << v`

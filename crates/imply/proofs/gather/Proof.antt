@@ -1,7 +1,7 @@
 -- `imply::gather` meets its contract. Assumes nothing.
 use native.Mathlib.Omega.{arith}
 use borrow.Author.Needs.{needs}
-use Rattle.judge.specs.DirtyLaws.{top-less}
+use Rattle.words.specs.Mask.{top-less}
 use Rattle.imply.specs.GatherLaws.{Gathering, gather-none, gather-more, gather-end}
 use Rattle.imply.proofs.gather.Statement.{statement}
 use Rattle.imply.proofs.gather.Tie as tie

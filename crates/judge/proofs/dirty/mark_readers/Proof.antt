@@ -3,7 +3,7 @@ use native.Mathlib.Omega.{arith}
 use mathlib.Core.Path.{_≡_, refl, _∙_}
 use lib.ListN.{length}
 use borrow.Author.Needs.{needs}
-use Rattle.judge.specs.DirtyLaws.{top-less}
+use Rattle.words.specs.Mask.{top-less}
 use Rattle.judge.proofs.dirty.mark_readers.Statement.{statement}
 use Rattle.judge.proofs.dirty.mark_readers.Tie as tie
 

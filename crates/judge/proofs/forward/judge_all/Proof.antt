@@ -43,9 +43,9 @@ loop-again : tie.Need-loop-again Inv-loop μ-loop
 loop-again c =
     let loop° = c .before .before .before .before .loop in
     ⊎-elim
-        (λ w. rw (w .5, w .6) (judging-then (loop° .inv .0) (w .2 .ensures), w .3 .given ∙ loop° .inv .1))
-        (λ w. rw (w .1, w .2) (loop° .inv))
-        (c .if1 .came)
+    (λ w. rw (w .5, w .6) (judging-then (loop° .inv .0) (w .2 .ensures), w .3 .given ∙ loop° .inv .1))
+    (λ w. rw (w .1, w .2) (loop° .inv))
+    (c .if1 .came)
 
 same-length : tie.Need-same-length Inv-loop μ-loop
 same-length c = c .before .loop .inv .1

@@ -7,14 +7,15 @@ use borrow.Author.Tests.{not-true}
 use borrow.Author.Needs.{needs}
 use borrow.Fn.Kinds.{In}
 use borrow.Fn.PlainCycle.{Measures, is, falls, and}
-use Rattle.words.specs.Mask.{top-bit}
+use Rattle.words.specs.Mask.{top-bit, top-less}
 use Rattle.records.specs.Both.{tables-same, tables-then}
 use Rattle.net.specs.Layout.{reads-low, flips-below, joins-left, joins-right, binds-below}
 use Rattle.judge.specs.JudgeLaws.{judged-at, judging-none, judging-then}
 use Rattle.judge.specs.CellLaws.{trail-none}
-use Rattle.search.specs.SearchLaws.{checked-flip, checked-left, checked-right, recorded-told, lent-after, perNode, body-less}
+use Rattle.proxies.specs.KeptLaws.{recorded-told}
+use Rattle.search.specs.SearchLaws.{checked-flip, checked-left, checked-right, lent-after, perNode, body-less}
 use Rattle.search.specs.SearchLaws.{told-met, told-missed, told-known, told-leaf, told-flip, told-left, told-right, told-both, told-shown}
-use Rattle.search.specs.SearchLaws.{known-found, known-lost, posed-cells, posed-checked, posed-half, half-less, posed-body}
+use Rattle.search.specs.SearchLaws.{known-found, known-lost, posed-cells, posed-checked, posed-half, posed-body}
 use Rattle.imply.specs.ForceLaws.{forced-less, forced-found, posed-forced, pushed-lost}
 use Rattle.imply.specs.Halves.{low-found, low-lost, high-found, high-lost, both-lost}
 use Rattle.search.proofs.cycle.branch.Reads as branch
@@ -55,12 +56,14 @@ use Rattle.judge.proofs.forward.judge.Reads as judge-reads
 use Rattle.judge.proofs.forward.keep.Reads as keep-reads
 use Rattle.net.proofs.node.decided.Reads as decided-reads
 use Rattle.net.proofs.node_at.Reads as node-at-reads
-use Rattle.search.proofs.cycle.body_shows.Reads as body-shows-reads
+use Rattle.proxies.proofs.body_shows.Reads as body-shows-reads
+use Rattle.search.proofs.cycle.begin.Reads as begin-reads
+use Rattle.search.proofs.cycle.few.Reads as few-reads
 use Rattle.search.proofs.cycle.leaf.Reads as leaf-reads
 use Rattle.imply.proofs.force.Reads as force-reads
 use Rattle.imply.proofs.gather.Reads as gather-reads
-use Rattle.search.proofs.kept.note.Reads as note-reads
-use Rattle.search.proofs.kept.recorded.Reads as recorded-reads
+use Rattle.proxies.proofs.note.Reads as note-reads
+use Rattle.proxies.proofs.recorded.Reads as recorded-reads
 use Rattle.words.proofs.w64.has.Reads as has-reads
 use Rattle.words.proofs.w64.highest.Reads as highest-reads
 use Rattle.words.proofs.w64.one.Reads as one-reads
@@ -226,6 +229,8 @@ evaluate-claims t = (
 
 abbrev extend-claims : ℕ → extend-lts.Claims
 extend-claims t = (
+  begin-reads.Asked,
+  begin-reads.Learnt,
   judge-reads.Asked,
   judge-reads.Learnt,
   settle-below t,
@@ -269,6 +274,10 @@ settle-claims t = (
   known-at-reads.Learnt,
   candidate-below t,
   candidate.Post,
+  few-reads.Asked,
+  few-reads.Learnt,
+  branch-below t,
+  branch.Post,
   push-below t,
   push.Post,
 )
@@ -293,7 +302,7 @@ branch-extend-requires t c κs =
     let highest° = c .before .before .before .before .before .before .before .highest in
     let one° = c .before .before .before .before .before .before .one in
     let without° = c .before .before .before .before .before .without in (
-      omega (arith, pre° .0, half-less (highest° .ensures .0) (one° .ensures) (without° .ensures) (pre° .1 .1 .0 .free)),
+      omega (arith, pre° .0, top-less (highest° .ensures .0) (one° .ensures) (without° .ensures)),
       (
         posed-half (top-bit (highest° .ensures .0)) (highest° .ensures .1) (one° .ensures) (without° .ensures) (pre° .1 .1 .0) (c .before .before .before .before .fix .ensures),
         pre° .1 .1 .1,
@@ -319,7 +328,6 @@ branch-returns t c =
       (
         rw (c .if1 .taken) (low-found (highest° .ensures .0) (highest° .ensures .1) (c .before .before .before .before .before .before .before .before .before .before .before .before .before .before .before .before .one .ensures) (c .before .before .before .before .before .before .before .before .before .before .before .before .before .before .before .without .ensures) (c .before .before .before .before .before .before .before .before .before .before .before .before .before .before .before .before .before .before .before .before .before .before .before .pre .1 .1 .0 .free) (c .before .before .before .before .before .before .before .before .before .before .before .before .before .before .fix .ensures) (rw (c .if1 .taken) at (extend° .ensures .0 .0))),
         extend° .ensures .0 .1,
-        extend° .ensures .0 .2,
       ),
       extend° .ensures .1,
     )
@@ -347,7 +355,6 @@ branch-returns-2 t c =
       (
         rw (if1° .left) (low-lost (highest° .ensures .0) (highest° .ensures .1) (c .before .before .before .before .before .before .before .before .before .before .before .before .before .before .before .before .before .before .one .ensures) (c .before .before .before .before .before .before .before .before .before .before .before .before .before .before .before .before .before .without .ensures) (c .before .before .before .before .before .before .before .before .before .before .before .before .before .before .before .before .before .before .before .before .before .before .before .before .before .pre .1 .1 .0 .free) (c .before .before .before .before .before .before .before .before .before .before .before .before .before .before .before .before .fix .ensures) (rw (if1° .left) at (extend° .ensures .0 .0)) (sym (c .before .has .ensures) ∙ not-true _ (c .if2 .taken))),
         extend° .ensures .0 .1,
-        extend° .ensures .0 .2,
       ),
       extend° .ensures .1,
     )
@@ -362,10 +369,10 @@ branch-extend-requires-2 t c κs =
     let one° = c .before .before .before .before .before .before .before .before .before .before .before .before .before .before .before .before .before .before .before .before .before .before .before .before .one in
     let without° = c .before .before .before .before .before .before .before .before .before .before .before .before .before .before .before .before .before .before .before .before .before .before .before .without in
     let extend° = c .before .before .before .before .before .before .before .before .before .before .before .before .before .before .before .before .before .extend in (
-      omega (arith, pre° .0, half-less (highest° .ensures .0) (one° .ensures) (without° .ensures) (pre° .1 .1 .0 .free)),
+      omega (arith, pre° .0, top-less (highest° .ensures .0) (one° .ensures) (without° .ensures)),
       (
         rw (extend° .ensures .0 .1) (posed-half (top-bit (highest° .ensures .0)) (highest° .ensures .1) (one° .ensures) (without° .ensures) (pre° .1 .1 .0) (c .before .before .before .before .before .fix2 .ensures)),
-        lent-after (pre° .1 .1 .1) (extend° .ensures .1) (extend° .ensures .0 .2),
+        lent-after (pre° .1 .1 .1) (extend° .ensures .1) (c .before .before .before .before .before .before .before .before .before .before .before .before .before .before .wants .given),
       ),
     )
 
@@ -389,7 +396,6 @@ branch-returns-3 t c =
       (
         rw (c .if3 .taken) (high-found (highest° .ensures .0) (highest° .ensures .1) (c .before .before .before .before .before .before .before .before .before .before .before .before .before .before .before .before .before .before .before .before .before .before .before .before .before .before .before .before .before .before .before .before .before .before .one .ensures) (c .before .before .before .before .before .before .before .before .before .before .before .before .before .before .before .before .before .before .before .before .before .before .before .before .before .before .before .before .before .before .before .before .before .without .ensures) (c .before .before .before .before .before .before .before .before .before .before .before .before .before .before .before .before .before .before .before .before .before .before .before .before .before .before .before .before .before .before .before .before .before .before .before .before .before .before .before .before .before .pre .1 .1 .0 .free) (c .before .before .before .before .before .before .before .before .before .before .before .before .before .before .before .before .before .before .before .before .before .before .before .before .before .before .before .before .before .before .before .before .fix .ensures) (rw (c .before .before .before .before .before .before .before .before .before .before .before .before .before .before .before .before .before .before .if1 .left) at (extend° .ensures .0 .0)) (c .before .before .before .before .before .before .before .before .before .before .before .before .before .before .before .fix2 .ensures) (rw (c .if3 .taken) at (extend2° .ensures .0 .0))),
         extend2° .ensures .0 .1 ∙ extend° .ensures .0 .1,
-        extend2° .ensures .0 .2 ∙ extend° .ensures .0 .2,
       ),
       tables-then (extend° .ensures .1) (extend2° .ensures .1),
     )
@@ -418,7 +424,6 @@ branch-returns-4 t c =
       (
         rw (if3° .left) (high-lost (highest° .ensures .0) (highest° .ensures .1) (c .before .before .before .before .before .before .before .before .before .before .before .before .before .before .before .before .before .before .before .before .before .before .before .before .before .before .before .before .before .before .before .before .before .before .before .before .one .ensures) (c .before .before .before .before .before .before .before .before .before .before .before .before .before .before .before .before .before .before .before .before .before .before .before .before .before .before .before .before .before .before .before .before .before .before .before .without .ensures) (c .before .before .before .before .before .before .before .before .before .before .before .before .before .before .before .before .before .before .before .before .before .before .before .before .before .before .before .before .before .before .before .before .before .before .before .before .before .before .before .before .before .before .before .pre .1 .1 .0 .free) (c .before .before .before .before .before .before .before .before .before .before .before .before .before .before .before .before .before .fix2 .ensures) (rw (if3° .left) at (extend2° .ensures .0 .0)) (sym (c .before .has2 .ensures) ∙ not-true _ (c .if4 .taken))),
         extend2° .ensures .0 .1 ∙ extend° .ensures .0 .1,
-        extend2° .ensures .0 .2 ∙ extend° .ensures .0 .2,
       ),
       tables-then (extend° .ensures .1) (extend2° .ensures .1),
     )
@@ -446,7 +451,6 @@ branch-returns-5 t c =
       (
         both-lost (highest° .ensures .0) (highest° .ensures .1) (c .before .before .before .before .before .before .before .before .before .before .before .before .before .before .before .before .before .before .before .before .before .before .before .before .before .before .before .before .before .before .before .before .before .before .before .before .before .before .before .before .one .ensures) (c .before .before .before .before .before .before .before .before .before .before .before .before .before .before .before .before .before .before .before .before .before .before .before .before .before .before .before .before .before .before .before .before .before .before .before .before .before .before .before .without .ensures) (c .before .before .before .before .before .before .before .before .before .before .before .before .before .before .before .before .before .before .before .before .before .before .before .before .before .before .before .before .before .before .before .before .before .before .before .before .before .before .before .before .before .before .before .before .before .before .before .pre .1 .1 .0 .free) (c .before .before .before .before .before .before .before .before .before .before .before .before .before .before .before .before .before .before .before .before .before .before .before .before .before .before .before .before .before .before .before .before .before .before .before .before .before .before .fix .ensures) (rw (c .before .before .before .before .before .before .before .before .before .before .before .before .before .before .before .before .before .before .before .before .before .before .before .before .if1 .left) at (extend° .ensures .0 .0)) (c .before .before .before .before .before .before .before .before .before .before .before .before .before .before .before .before .before .before .before .before .before .fix2 .ensures) (rw (c .before .before .before .before .before .before .if3 .left) at (extend2° .ensures .0 .0)) (c .without2 .ensures),
         extend2° .ensures .0 .1 ∙ extend° .ensures .0 .1,
-        extend2° .ensures .0 .2 ∙ extend° .ensures .0 .2,
       ),
       tables-then (extend° .ensures .1) (extend2° .ensures .1),
     )
@@ -479,7 +483,6 @@ candidate-returns t c =
       (
         told-met (c .before .before .before .before .before .before .before .before .before .before .before .before .before .before .before .before .before .before .before .before .before .before .before .before .before .pre .1 .0) (check° .ensures .0 .0) (c .if1 .taken),
         c .before .before .before .before .before .undo .ensures _ (check° .ensures .0 .1 .keeps _ (trail-none refl refl)),
-        check° .ensures .0 .2,
       ),
       check° .ensures .1,
     )
@@ -502,7 +505,6 @@ candidate-returns-2 t c =
       (
         told-missed (c .before .before .before .before .before .before .before .before .before .before .before .before .before .before .before .before .before .before .before .before .before .before .before .before .before .pre .1 .0) (check° .ensures .0 .0) (c .if1 .left),
         c .before .before .before .before .before .undo .ensures _ (check° .ensures .0 .1 .keeps _ (trail-none refl refl)),
-        check° .ensures .0 .2,
       ),
       check° .ensures .1,
     )
@@ -524,7 +526,6 @@ check-returns t c =
       (
         told-known (omega (arith, c .if1 .taken)) (judged-at (pre° .1 .0 .1 .judged) (known-at° .ensures .0) (known-at° .ensures .1)),
         judging-none (pre° .1 .0 .1 .judged),
-        refl,
       ),
       tables-same (pre° .1 .1 .tables),
     )
@@ -562,7 +563,6 @@ check-returns-2 t c =
       (
         evaluate° .ensures .0 .0,
         judging-then (evaluate° .ensures .0 .1) (c .before .before .before .keep .ensures _ _ _ (evaluate° .ensures .0 .1 .judged) (λ s. evaluate° .ensures .0 .0 .forced)),
-        evaluate° .ensures .0 .2,
       ),
       evaluate° .ensures .1,
     )
@@ -604,7 +604,6 @@ choose-returns t c =
       (
         rw (c .before .before .before .before .before .before .before .before .before .before .before .before .before .decided .ensures, c .before .before .before .before .before .before .before .before .before .before .before .before .before .before .free-all .ensures .values) at (extend° .ensures .0 .0),
         extend° .ensures .0 .1,
-        extend° .ensures .0 .2,
       ),
       extend° .ensures .1,
     )
@@ -628,7 +627,6 @@ evaluate-returns t c =
       (
         told-leaf (pre° .1 .0 .1) (c .before .before .node-at .ensures .0) (c .before .if1 .taken) (c .leaf .ensures),
         judging-none (pre° .1 .0 .1 .judged),
-        refl,
       ),
       tables-same (pre° .1 .1 .tables),
     )
@@ -663,7 +661,6 @@ evaluate-returns-2 t c =
       (
         told-flip (c .before .before .before .before .before .before .before .before .before .before .before .before .before .before .before .before .before .before .before .before .before .before .before .pre .1 .0 .1) (c .before .before .before .before .before .before .before .before .before .before .before .before .before .before .before .before .before .node-at .ensures .0) (c .before .before .before .before .before .before .before .before .before .before .before .before .before .before .before .if2 .taken) (check° .ensures .0 .0),
         check° .ensures .0 .1,
-        check° .ensures .0 .2,
       ),
       check° .ensures .1,
     )
@@ -729,14 +726,17 @@ evaluate-returns-4 t c =
 
 -- ---- extend
 
+extend-begin-requires : (t : ℕ) → extend-lts.Need-begin-requires (extend-claims t) (extend-at t) extend.Post
+extend-begin-requires t c κs = search needs
+
 extend-judge-requires : (t : ℕ) → extend-lts.Need-judge-requires (extend-claims t) (extend-at t) extend.Post
 extend-judge-requires t c κs =
-    let pre° = c .before .before .before .before .before .before .pre in
+    let pre° = c .before .before .before .before .before .before .before .pre in
     (pre° .1 .0 .ground, omega (arith, pre° .1 .0 .here, pre° .1 .0 .ground .room), pre° .1 .0 .judged)
 
 extend-settle-requires : (t : ℕ) → extend-lts.Need-settle-requires (extend-claims t) (extend-at t) extend.Post
 extend-settle-requires t c κs =
-    let pre° = c .before .before .before .before .before .before .before .before .before .before .before .before .before .pre in
+    let pre° = c .before .before .before .before .before .before .before .before .before .before .before .before .before .before .pre in
     (omega (arith, pre° .0), (posed-cells (pre° .1 .0) (c .before .before .before .before .before .before .judge .ensures .judged), pre° .1 .1))
 
 extend-undo-requires : (t : ℕ) → extend-lts.Need-undo-requires (extend-claims t) (extend-at t) extend.Post
@@ -760,7 +760,6 @@ extend-returns t c =
       (
         settle° .ensures .0 .0,
         c .before .before .undo .ensures _ (rw (settle° .ensures .0 .1) (c .before .before .before .before .before .before .before .before .before .before .before .before .before .before .before .before .before .before .before .judge .ensures .keeps _ (trail-none refl refl))),
-        settle° .ensures .0 .2,
       ),
       settle° .ensures .1,
     )
@@ -796,7 +795,6 @@ gate-returns t c =
       (
         told-left (pre° .1 .1 .0 .1) (pre° .1 .0 .0) (pre° .1 .0 .1) (pre° .1 .0 .2) refl (check° .ensures .0 .0) (c .if1 .taken),
         check° .ensures .0 .1,
-        check° .ensures .0 .2,
       ),
       check° .ensures .1,
     )
@@ -808,7 +806,7 @@ gate-check-requires-2 t c κs =
       omega (arith, pre° .0, joins-right (pre° .1 .1 .0 .1 .ground) (pre° .1 .0 .0) (pre° .1 .0 .1) (pre° .1 .0 .2)),
       (
         checked-right (pre° .1 .1 .0 .1) (pre° .1 .0 .0) (pre° .1 .0 .1) (pre° .1 .0 .2) (check° .ensures .0 .1 .judged),
-        lent-after (pre° .1 .1 .1) (check° .ensures .1) (check° .ensures .0 .2),
+        lent-after (pre° .1 .1 .1) (check° .ensures .1) (c .before .before .before .before .before .before .before .before .before .before .before .before .wants .given),
       ),
     )
 
@@ -832,7 +830,6 @@ gate-returns-2 t c =
       (
         told-right (pre° .1 .1 .0 .1) (pre° .1 .0 .0) (pre° .1 .0 .1) (pre° .1 .0 .2) refl (check2° .ensures .0 .0) (c .if2 .taken),
         judging-then (check° .ensures .0 .1) (check2° .ensures .0 .1),
-        check2° .ensures .0 .2 ∙ check° .ensures .0 .2,
       ),
       tables-then (check° .ensures .1) (check2° .ensures .1),
     )
@@ -857,7 +854,6 @@ gate-returns-3 t c =
       (
         told-both (pre° .1 .1 .0 .1) (pre° .1 .0 .0) (pre° .1 .0 .1) (pre° .1 .0 .2) refl (check° .ensures .0 .0) (c .before .before .before .before .before .before .before .before .before .before .before .before .before .before .before .before .before .before .before .if1 .left) (check2° .ensures .0 .0) (c .before .before .before .if2 .left),
         judging-then (check° .ensures .0 .1) (check2° .ensures .0 .1),
-        check2° .ensures .0 .2 ∙ check° .ensures .0 .2,
       ),
       tables-then (check° .ensures .1) (check2° .ensures .1),
     )
@@ -900,7 +896,6 @@ push-returns t c =
       (
         branch° .ensures .0 .0,
         branch° .ensures .0 .1,
-        branch° .ensures .0 .2 ∙ c .before .before .before .before .before .before .before .before .before .before .before .before .before .before .before .before .before .force .ensures .1,
       ),
       branch° .ensures .1,
     )
@@ -939,7 +934,6 @@ push-returns-2 t c =
       (
         rw (c .if2 .taken) (forced-found (force° .ensures .0) (c .before .before .before .before .before .before .before .before .before .before .before .before .before .before .before .before .before .before .before .before .before .before .before .before .before .before .before .before .before .before .before .before .pre .1 .1 .0 .free) (c .before .before .before .before .before .before .before .before .before .before .before .before .before .before .before .before .before .before .without .ensures) refl refl (rw (c .if2 .taken) at (extend° .ensures .0 .0))),
         extend° .ensures .0 .1,
-        extend° .ensures .0 .2 ∙ force° .ensures .1,
       ),
       extend° .ensures .1,
     )
@@ -969,7 +963,6 @@ push-returns-3 t c =
       (
         pushed-lost (c .before .before .before .before .before .before .before .before .before .before .before .before .before .before .before .before .before .before .before .before .before .before .before .before .before .before .before .before .before .before .before .before .before .before .before .before .before .before .pre .1 .1 .0) (force° .ensures .0) (c .before .before .before .before .before .before .before .before .before .before .before .before .before .before .before .before .before .before .before .before .before .before .before .before .without .ensures) refl refl (rw (c .before .before .before .before .before .before .if2 .left) at (extend° .ensures .0 .0)) refl (c .before .before .gather .ensures) (c .without2 .ensures) refl,
         extend° .ensures .0 .1,
-        extend° .ensures .0 .2 ∙ force° .ensures .1,
       ),
       extend° .ensures .1,
     )
@@ -994,7 +987,7 @@ quantified-returns : (t : ℕ) → quantified-lts.Need-returns (quantified-claim
 quantified-returns t c =
     let pre° = c .before .before .before .before .before .before .before .before .before .before .pre in
     let both = recorded-told (pre° .1 .1 .0 .1 .ground) (pre° .1 .1 .1 .tables) (pre° .1 .1 .0 .1 .covers) (omega (arith, c .if1 .taken)) (c .before .before .recorded .ensures) in
-    ((both .0, judging-none (pre° .1 .1 .0 .1 .judged), refl), (tables-same (pre° .1 .1 .1 .tables), both .1))
+    ((both .0, judging-none (pre° .1 .1 .0 .1 .judged)), (tables-same (pre° .1 .1 .1 .tables), both .1))
 
 quantified-choose-requires : (t : ℕ) → quantified-lts.Need-choose-requires (quantified-claims t) (quantified-at t) quantified.Post
 quantified-choose-requires t c κs =
@@ -1034,7 +1027,7 @@ quantified-returns-2 t c =
     let choose° = c .before .before .before .before .before .before .before .before .before .before .before .before .before .before .before .before .before .choose in
     let told = told-shown (pre° .1 .1 .0 .1) (pre° .1 .0 .0) (pre° .1 .0 .1) _ _ (choose° .ensures .0 .0) (c .before .before .before .before .before .before .before .before .body-shows .ensures) in
     let noted = c .before .before .before .before .note .ensures _ (pre° .1 .1 .0 .1 .ground) (choose° .ensures .1 .tables) (pre° .1 .1 .0 .0) (told .forced .explains) in (
-      (told, rw (choose° .ensures .0 .1) (judging-none (pre° .1 .1 .0 .1 .judged)), choose° .ensures .0 .2),
+      (told, rw (choose° .ensures .0 .1) (judging-none (pre° .1 .1 .0 .1 .judged))),
       (tables-then (choose° .ensures .1) (noted .0), noted .1),
     )
 
@@ -1055,7 +1048,6 @@ settle-returns t c =
       (
         known-found (pre° .1 .0) (omega (arith, c .before .before .if1 .taken)) (judged-at (pre° .1 .0 .judged) (known-at° .ensures .0) (known-at° .ensures .1)) (c .if2 .taken),
         refl,
-        refl,
       ),
       tables-same (pre° .1 .1 .tables),
     )
@@ -1069,7 +1061,6 @@ settle-returns-2 t c =
     let known-at° = c .before .before .before .before .known-at in (
       (
         known-lost (pre° .1 .0) (omega (arith, c .before .before .if1 .taken)) (judged-at (pre° .1 .0 .judged) (known-at° .ensures .0) (known-at° .ensures .1)) (c .if2 .left),
-        refl,
         refl,
       ),
       tables-same (pre° .1 .1 .tables),
@@ -1095,10 +1086,13 @@ settle-same-length-6 t c = c .before .over .given
 settle-returns-3 : (t : ℕ) → settle-lts.Need-returns-3 (settle-claims t) (settle-at t) settle.Post
 settle-returns-3 t c = rw (c .before .before .before .before .before .before .before .before .before .before .before .before .before .if3 .taken) (c .before .before .before .before .before .before .before .before .candidate .ensures)
 
-settle-push-requires : (t : ℕ) → settle-lts.Need-push-requires (settle-claims t) (settle-at t) settle.Post
-settle-push-requires t c κs =
-    let pre° = c .before .before .before .before .before .before .before .before .before .before .before .before .before .before .pre in
-    (omega (arith, pre° .0), (omega (arith, c .before .before .before .before .if3 .left), pre° .1))
+settle-few-requires : (t : ℕ) → settle-lts.Need-few-requires (settle-claims t) (settle-at t) settle.Post
+settle-few-requires t c κs = search needs
+
+settle-branch-requires : (t : ℕ) → settle-lts.Need-branch-requires (settle-claims t) (settle-at t) settle.Post
+settle-branch-requires t c κs =
+    let pre° = c .before .before .before .before .before .before .before .before .before .before .before .before .before .before .before .before .pre in
+    (omega (arith, pre° .0), (omega (arith, c .before .before .before .before .before .before .if3 .left), pre° .1))
 
 settle-same-length-7 : (t : ℕ) → settle-lts.Need-same-length-7 (settle-claims t) (settle-at t) settle.Post
 settle-same-length-7 t c = c .before .before .before .before .before .before .before .cells2 .given
@@ -1113,7 +1107,27 @@ settle-same-length-10 : (t : ℕ) → settle-lts.Need-same-length-10 (settle-cla
 settle-same-length-10 t c = c .before .over2 .given
 
 settle-returns-4 : (t : ℕ) → settle-lts.Need-returns-4 (settle-claims t) (settle-at t) settle.Post
-settle-returns-4 t c = c .before .before .before .before .before .before .before .before .push .ensures
+settle-returns-4 t c = c .before .before .before .before .before .before .before .before .branch .ensures
+
+settle-push-requires : (t : ℕ) → settle-lts.Need-push-requires (settle-claims t) (settle-at t) settle.Post
+settle-push-requires t c κs =
+    let pre° = c .before .before .before .before .before .before .before .before .before .before .before .before .before .before .before .before .pre in
+    (omega (arith, pre° .0), (omega (arith, c .before .before .before .before .before .before .if3 .left), pre° .1))
+
+settle-same-length-11 : (t : ℕ) → settle-lts.Need-same-length-11 (settle-claims t) (settle-at t) settle.Post
+settle-same-length-11 t c = c .before .before .before .before .before .before .before .cells3 .given
+
+settle-same-length-12 : (t : ℕ) → settle-lts.Need-same-length-12 (settle-claims t) (settle-at t) settle.Post
+settle-same-length-12 t c = c .before .before .before .before .before .wants3 .given
+
+settle-same-length-13 : (t : ℕ) → settle-lts.Need-same-length-13 (settle-claims t) (settle-at t) settle.Post
+settle-same-length-13 t c = c .before .before .before .under3 .given
+
+settle-same-length-14 : (t : ℕ) → settle-lts.Need-same-length-14 (settle-claims t) (settle-at t) settle.Post
+settle-same-length-14 t c = c .before .over3 .given
+
+settle-returns-5 : (t : ℕ) → settle-lts.Need-returns-5 (settle-claims t) (settle-at t) settle.Post
+settle-returns-5 t c = c .before .before .before .before .before .before .before .before .push .ensures
 
 pub +branch+candidate+check+choose+evaluate+extend+gate+push+quantified+settle-spec :
     {M : Type 1} → statement M
@@ -1228,6 +1242,7 @@ pub +branch+candidate+check+choose+evaluate+extend+gate+push+quantified+settle-s
     (evaluate-returns-4 t))
     (λ t. extend-lts.spec (extend-claims t) (extend-at t)
     extend.Post
+    (extend-begin-requires t)
     (extend-judge-requires t)
     (extend-settle-requires t)
     (extend-undo-requires t)
@@ -1306,9 +1321,16 @@ pub +branch+candidate+check+choose+evaluate+extend+gate+push+quantified+settle-s
     (settle-same-length-5 t)
     (settle-same-length-6 t)
     (settle-returns-3 t)
-    (settle-push-requires t)
+    (settle-few-requires t)
+    (settle-branch-requires t)
     (settle-same-length-7 t)
     (settle-same-length-8 t)
     (settle-same-length-9 t)
     (settle-same-length-10 t)
     (settle-returns-4 t)
+    (settle-push-requires t)
+    (settle-same-length-11 t)
+    (settle-same-length-12 t)
+    (settle-same-length-13 t)
+    (settle-same-length-14 t)
+    (settle-returns-5 t)

@@ -56,9 +56,7 @@ same-length-2 c =
     ap length (choose2° .ensures .0 .1)
 
 same-length-3 : tie.Need-same-length-3
-same-length-3 c =
-    let choose2° = c .before .before .before .before .before .before .before .before .before .before .before .before .choose2 in
-    choose2° .ensures .0 .2
+same-length-3 c = c .before .before .before .before .before .before .before .before .before .wants .given
 
 same-length-4 : tie.Need-same-length-4
 same-length-4 c =
@@ -79,7 +77,7 @@ returns c =
     let choose2° = c .before .before .before .before .before .before .before .before .before .before .before .before .choose2 in
     let forget° = c .before .before .forget in (
       asked-solved (pre° .1) (choose° .ensures) (frames° .ensures) (node-at° .ensures .0) (choose2° .result .found) (choose2° .result .word) (choose2° .result .reason) (choose2° .ensures .0 .0),
-      (asked-grown (pre° .1) (choose° .ensures) (choose2° .ensures .1), (forgotten-back (pre° .1 .net-of) (choose° .ensures) (forget° .ensures), choose2° .ensures .0 .1, choose2° .ensures .0 .2)),
+      (asked-grown (pre° .1) (choose° .ensures) (choose2° .ensures .1), (forgotten-back (pre° .1 .net-of) (choose° .ensures) (forget° .ensures), choose2° .ensures .0 .1, c .before .before .before .before .before .before .before .before .before .wants .given)),
     )
 
 pub solve-spec : {M : Type 1} → statement M

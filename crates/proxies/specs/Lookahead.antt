@@ -10,8 +10,8 @@ use Rattle.formula.specs.Formula.{Formula, truth, free}
 use Rattle.net.specs.Net.{Node, Fixed, Reads, Flips, Joins, Binds, meaning}
 use Rattle.net.specs.Layout.{packed}
 use Rattle.records.specs.Table.{frameAt, maskAt, valuesAt}
-use Rattle.search.specs.Kept.{Noted}
-use Rattle.search.specs.Search.{Told}
+use Rattle.proxies.specs.Kept.{Noted}
+use Rattle.proxies.specs.Told.{Told}
 
 -- 000's b.p, for a quantifier b of the net. It stands for the quantifier itself; where that is a FORALL, 000's node is its negation, an EXISTS, whose
 -- proxy is this one negated, whose U is b's over table and whose O is b's under table: L and L' come out the same.

@@ -1,7 +1,11 @@
-// The records of a search: what two tables say of a quantifier, and what a search of its body adds to them. Records are document 01's, of 32 variables.
+// What stands for a quantifier while a candidate is checked, as source 000's proxy: what two tables of records say of it, what a search of its body shows,
+// and what of that is kept. Records are document 01's, of 32 variables.
 use judge::Known;
+use net::Node;
+use net::node::decided;
 use records::Counts;
 use records::Found;
+use words::w64;
 ghost use mathlib.Core.Path.{_≡_};
 ghost use mathlib.Core.List.{List};
 ghost use Prim.Native.Nat.{ℕ, _%_, _*_, _<_, _≤_};
@@ -10,7 +14,7 @@ ghost use Rattle.words.specs.Word.{bit};
 ghost use Rattle.formula.specs.Reason.{Explains};
 ghost use Rattle.records.specs.Both.{Tables, TablesGrown};
 ghost use Rattle.net.specs.Layout.{Ground, framesOf, formulaAt, val};
-ghost use Rattle.search.specs.Kept.{Recorded, Noted};
+ghost use Rattle.proxies.specs.Kept.{Recorded, Noted, Shown};
 
 // Every variable of a record.
 const ALL: u32 = 4294967295;
@@ -45,6 +49,23 @@ pub fn recorded(frame: usize, word: u64, under: &[u32], over: &[u32], kept: Coun
     Known {
         value: 0,
         reason: 0,
+    }
+}
+
+// What the search of its body shows of a quantifier.
+pub fn body_shows(node: Node, found: bool, reason: u64) -> Known
+    ensures { λ r. ⌜ Shown (node .op) (node .mask) found reason (r .value) (r .reason) ⌝ }
+{
+    let d = decided(node.op);
+    if found {
+        return Known {
+            value: d,
+            reason: w64::without(reason, node.mask),
+        };
+    }
+    Known {
+        value: 3 - d,
+        reason,
     }
 }
 

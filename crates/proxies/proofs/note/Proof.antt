@@ -1,9 +1,9 @@
--- `search::kept::note` meets its contract: the record that is put is true, and agrees with the word. Assumes nothing.
+-- `proxies::note` meets its contract: the record that is put is true, and agrees with the word. Assumes nothing.
 use native.Mathlib.Omega.{arith}
 use borrow.Author.Needs.{needs}
-use Rattle.search.specs.SearchLaws.{noted-under, noted-over}
-use Rattle.search.proofs.kept.note.Statement.{statement}
-use Rattle.search.proofs.kept.note.Tie as tie
+use Rattle.proxies.specs.KeptLaws.{noted-under, noted-over}
+use Rattle.proxies.proofs.note.Statement.{statement}
+use Rattle.proxies.proofs.note.Tie as tie
 
 low-requires : tie.Need-low-requires
 low-requires c κs = search needs

@@ -1,12 +1,12 @@
--- `search::cycle::body_shows` meets its contract. Assumes nothing.
+-- `proxies::body_shows` meets its contract. Assumes nothing.
 use Prim.Native.Nat.{ℕ, _-_}
 use native.Mathlib.Omega.{arith}
 use mathlib.Core.Path.{_≡_, refl, ap}
 use borrow.Author.Needs.{needs}
 use Rattle.words.specs.Logic.{clash}
 use Rattle.net.specs.Layout.{decides-some, decides-low}
-use Rattle.search.proofs.cycle.body_shows.Statement.{statement}
-use Rattle.search.proofs.cycle.body_shows.Tie as tie
+use Rattle.proxies.proofs.body_shows.Statement.{statement}
+use Rattle.proxies.proofs.body_shows.Tie as tie
 
 decided-requires : tie.Need-decided-requires
 decided-requires c κs = search needs

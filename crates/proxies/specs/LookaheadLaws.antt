@@ -20,10 +20,10 @@ use Rattle.records.specs.Table.{Valid, room, maskAt, valuesAt, matches, matches
 use Rattle.records.specs.Both.{Tables, TablesGrown}
 use Rattle.net.specs.Net.{Node, Fixed, Reads, Flips, Joins, Binds, Fit, Ordered, Ranged, fit-at, at-fixed, at-reads, at-flips, at-joins, upward}
 use Rattle.net.specs.Layout.{framesOf, packed, formulaAt, Ground, val, ground-bounded}
-use Rattle.search.specs.Kept.{all, lowWord, RecordAt, Recorded}
-use Rattle.search.specs.Search.{Covers}
-use Rattle.search.specs.SearchLaws.{low-bit, recorded-told}
-use Rattle.search.specs.Lookahead.{proxy, proxied, body, Agreeing, Allowed, L, L′, Settled}
+use Rattle.proxies.specs.Kept.{all, lowWord, RecordAt, Recorded}
+use Rattle.imply.specs.Posed.{Covers}
+use Rattle.proxies.specs.KeptLaws.{low-bit, recorded-told}
+use Rattle.proxies.specs.Lookahead.{proxy, proxied, body, Agreeing, Allowed, L, L′, Settled}
 
 -- ---- records and assignments
 

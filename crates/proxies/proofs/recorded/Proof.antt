@@ -1,11 +1,11 @@
--- `search::kept::recorded` meets its contract: what is found is a counted record that matches. Assumes nothing.
+-- `proxies::recorded` meets its contract: what is found is a counted record that matches. Assumes nothing.
 use native.Mathlib.Omega.{arith}
 use mathlib.Core.Logic.{inl, inr}
 use mathlib.Core.Path.{_≡_, refl}
 use borrow.Author.Needs.{needs}
 use Rattle.records.specs.declared.Found.the-variants.{At}
-use Rattle.search.proofs.kept.recorded.Statement.{statement}
-use Rattle.search.proofs.kept.recorded.Tie as tie
+use Rattle.proxies.proofs.recorded.Statement.{statement}
+use Rattle.proxies.proofs.recorded.Tie as tie
 
 low-requires : tie.Need-low-requires
 low-requires c κs = search needs

@@ -1,0 +1,5 @@
+pub mod Kept
+pub mod Told
+pub mod KeptLaws
+pub mod Lookahead
+pub mod LookaheadLaws
