@@ -55,6 +55,12 @@ pub record InputForced (m w x v r : ℕ) : Type 0 where
 abbrev pub RightInput : ℕ → ℕ → ℕ → ℕ → ℕ → Type 0
 RightInput m w x v r = 0 < v → InputForced m w x v r
 
+-- a constant, or an input
+pub record RightLeaf (op left m w v r : ℕ) : Type 0 where
+  pub never : op ≡ 0 → (v ≡ 1) × (r ≡ 0)
+  pub always : op ≡ 1 → (v ≡ 2) × (r ≡ 0)
+  pub reads : op ≡ 2 → RightInput m w left v r
+
 -- ---- judging so far: the cells are right, and the trail goes back to where it went
 
 pub record Judging (net : List ℕ) (m w : ℕ) (cells₀ : List ℕ) (head₀ : ℕ) (cells : List ℕ) (head : ℕ) : Type 0 where

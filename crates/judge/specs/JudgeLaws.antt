@@ -1,7 +1,7 @@
 -- Judging is right: each kind of node, from what is known of the nodes that it names; and what is known stays so. Assumes nothing.
 use Prim.Native.Nat.{ℕ, _+_, _-_, _≤_, _<_}
 use native.Mathlib.Omega.{arith}
-use mathlib.Core.Path.{_≡_, sym, _∙_, ap}
+use mathlib.Core.Path.{_≡_, refl, sym, _∙_, ap}
 use mathlib.Core.Bool.{Bool, true, false, not, and-true}
 use mathlib.Core.Logic.{_⊎_, inl, inr}
 use mathlib.Core.List.{List}
@@ -19,20 +19,20 @@ use Rattle.net.specs.Stands.{mask-decided, mask-undecided}
 use Rattle.net.specs.Layout.{formulaAt, Ground, Is, val, val-not, val-flip, decides, decides-some, decides-low, f-fixed, f-true, f-reads, f-flips, f-joins, f-binds}
 use Rattle.judge.specs.Cells.{HasCell, valueOf, reasonOf, Vacant, Stored, end}
 use Rattle.judge.specs.CellLaws.{stored-long, stored-value, stored-reason, other-value, other-reason, blank-value, trail-put}
-use Rattle.judge.specs.Judge.{Forced, Right, Judged, Negated, Joined, Bound, RightInput, Judging}
+use Rattle.judge.specs.Judge.{Forced, Right, Judged, Negated, Joined, Bound, RightInput, RightLeaf, Judging}
 
 -- ---- each kind of node
 
 module _ {net : List ℕ} {k op left right mask m w : ℕ} (G : Ground net) (I : Is net k op left right mask) where
-  pub right-false : op ≡ 0 → Right net m w k 1 0
+  right-false : op ≡ 0 → Right net m w k 1 0
   unfolding val
   right-false e l = record { low = omega arith; explains = rw (f-fixed G I e) (word-never (bit w)); assigned = none-sub m }
 
-  pub right-true : op ≡ 1 → Right net m w k 2 0
+  right-true : op ≡ 1 → Right net m w k 2 0
   unfolding val
   right-true e l = record { low = omega arith; explains = rw (f-true G I e) (explains-neg (word-never (bit w))); assigned = none-sub m }
 
-  pub right-input : {x v r : ℕ} → op ≡ 2 → x ≡ left → RightInput m w x v r → Right net m w k v r
+  right-input : {x v r : ℕ} → op ≡ 2 → x ≡ left → RightInput m w x v r → Right net m w k v r
   right-input {x} e h i l =
       let f = i l in
       record {
@@ -40,6 +40,14 @@ module _ {net : List ℕ} {k op left right mask m w : ℕ} (G : Ground net) (I :
         explains = rw (f-reads G I e, f .value, f .reason, ← h) (word-input x (bit w));
         assigned = rw (f .reason) (one-sub x (f .assigned));
       }
+
+  pub right-leaf : {v r : ℕ} → op < 3 → RightLeaf op left m w v r → Right net m w k v r
+  right-leaf {v} {r} h L = by (eqb op 0) (eqb op 1) refl refl
+    where
+      by : (p q : Bool) → eqb op 0 ≡ p → eqb op 1 ≡ q → Right net m w k v r
+      by true q e f = let z = L .never (eqb-true op 0 e) in rw (z .0, z .1) (right-false (eqb-true op 0 e))
+      by false true e f = let z = L .always (eqb-true op 1 f) in rw (z .0, z .1) (right-true (eqb-true op 1 f))
+      by false false e f = let two : op ≡ 2 = omega (arith, eqb-false op 0 e, eqb-false op 1 f, h) in right-input two refl (L .reads two)
 
   pub right-not : {y p v r : ℕ} → op ≡ 3 → Right net m w left y p → Negated y p v r → Right net m w k v r
   right-not {y} {p} {v} {r} e i n l =

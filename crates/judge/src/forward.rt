@@ -12,7 +12,7 @@ ghost use Prim.Native.Nat.{ℕ, _*_, _<_, _≤_};
 ghost use lib.ListN.{length};
 ghost use Rattle.net.specs.Layout.{HasNode, Ground};
 ghost use Rattle.judge.specs.Cells.{HasCell, Vacant};
-ghost use Rattle.judge.specs.Judge.{Judged, Right, RightInput, Negated, Joined, Bound, Judging};
+ghost use Rattle.judge.specs.Judge.{Judged, Right, RightInput, RightLeaf, Negated, Joined, Bound, Judging};
 
 // Every variable, as a mask: all nodes are to be judged.
 pub const ALL: u64 = 18446744073709551615;
@@ -46,6 +46,20 @@ fn input(cube: Cube64, v: u8) -> Known
         value: 0,
         reason: 0,
     }
+}
+
+// A constant or an input.
+fn leaf(op: u8, left: usize, cube: Cube64) -> Known
+    requires { ⌜ (op < 3) × (op ≡ 2 → left < 64) ⌝ }
+    ensures { λ r. ⌜ RightLeaf op left (cube .mask) (cube .values) (r .value) (r .reason) ⌝ }
+{
+    if op < 2 {
+        return Known {
+            value: op + 1,
+            reason: 0,
+        };
+    }
+    input(cube, variable(left))
 }
 
 fn negated(x: Known) -> Known
@@ -112,20 +126,8 @@ fn judge_node(net: &[u64], k: usize, cube: Cube64, cells: &[u64]) -> Known
 {
     let node = node_at(net, k);
     let op = node.op;
-    if op == 0 {
-        return Known {
-            value: 1,
-            reason: 0,
-        };
-    }
-    if op == 1 {
-        return Known {
-            value: 2,
-            reason: 0,
-        };
-    }
-    if op == 2 {
-        return input(cube, variable(node.left));
+    if op < 3 {
+        return leaf(op, node.left, cube);
     }
     let x = known_at(cells, node.left);
     if op == 3 {

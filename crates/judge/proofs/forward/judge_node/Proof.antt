@@ -3,78 +3,62 @@ use native.Mathlib.Omega.{arith}
 use mathlib.Core.Path.{refl}
 use borrow.Author.Needs.{needs}
 use Rattle.net.specs.Layout.{reads-low, names-below, joins-right}
-use Rattle.judge.specs.JudgeLaws.{right-false, right-true, right-input, right-not, right-gate, right-binds, judged-at}
+use Rattle.judge.specs.JudgeLaws.{right-leaf, right-not, right-gate, right-binds, judged-at}
 use Rattle.judge.proofs.forward.judge_node.Statement.{statement}
 use Rattle.judge.proofs.forward.judge_node.Tie as tie
 
 node-at-requires : tie.Need-node-at-requires
 node-at-requires c κs = search needs
 
+leaf-requires : tie.Need-leaf-requires
+leaf-requires c κs =
+    let pre° = c .before .before .before .before .pre in
+    let node-at° = c .before .node-at in
+    (c .if1 .taken, λ e. omega (arith, reads-low (pre° .0) (node-at° .ensures .0) e))
+
 returns : tie.Need-returns
-returns c = right-false (c .before .before .before .before .pre .0) (c .before .node-at .ensures .0) (c .if1 .taken)
-
-returns-2 : tie.Need-returns-2
-returns-2 c = right-true (c .before .before .before .before .before .pre .0) (c .before .before .node-at .ensures .0) (c .if2 .taken)
-
-variable-requires : tie.Need-variable-requires
-variable-requires c κs =
-    let pre° = c .before .before .before .before .before .before .pre in
-    let node-at° = c .before .before .before .node-at in
-    omega (arith, reads-low (pre° .0) (node-at° .ensures .0) (c .if3 .taken))
-
-input-requires : tie.Need-input-requires
-input-requires c κs =
-    let pre° = c .before .before .before .before .before .before .before .pre in
-    let node-at° = c .before .before .before .before .node-at in
-    omega (arith, reads-low (pre° .0) (node-at° .ensures .0) (c .before .if3 .taken), c .variable .ensures)
-
-returns-3 : tie.Need-returns-3
-returns-3 c =
-    let pre° = c .before .before .before .before .before .before .before .before .pre in
-    let node-at° = c .before .before .before .before .before .node-at in
-    right-input (pre° .0) (node-at° .ensures .0) (c .before .before .if3 .taken) (c .before .variable .ensures) (c .input .ensures)
+returns c =
+    let pre° = c .before .before .before .before .before .pre in
+    let node-at° = c .before .before .node-at in
+    right-leaf (pre° .0) (node-at° .ensures .0) (c .before .if1 .taken) (c .leaf .ensures)
 
 known-at-requires : tie.Need-known-at-requires
 known-at-requires c κs =
-    let pre° = c .before .before .before .before .before .before .pre in
-    let node-at° = c .before .before .before .node-at in
-    omega (arith, names-below (pre° .0) (node-at° .ensures .0) (omega arith), pre° .1, pre° .2 .long)
+    let pre° = c .before .before .before .before .pre in
+    let node-at° = c .before .node-at in
+    omega (arith, names-below (pre° .0) (node-at° .ensures .0) (omega (arith, c .if1 .left)), pre° .1, pre° .2 .long)
 
 negated-requires : tie.Need-negated-requires
 negated-requires c κs = search needs
 
-returns-4 : tie.Need-returns-4
-returns-4 c =
-    let pre° = c .before .before .before .before .before .before .before .before .before .pre in
-    let node-at° = c .before .before .before .before .before .before .node-at in
+returns-2 : tie.Need-returns-2
+returns-2 c =
+    let pre° = c .before .before .before .before .before .before .before .pre in
+    let node-at° = c .before .before .before .before .node-at in
     let known-at° = c .before .before .known-at in
-    right-not (pre° .0) (node-at° .ensures .0) (c .before .if4 .taken) (judged-at (pre° .2) (known-at° .ensures .0) (known-at° .ensures .1)) (c .negated .ensures)
-
-sub-joined : tie.Need-sub-joined
-sub-joined c = search needs
+    right-not (pre° .0) (node-at° .ensures .0) (c .before .if2 .taken) (judged-at (pre° .2) (known-at° .ensures .0) (known-at° .ensures .1)) (c .negated .ensures)
 
 known-at-requires-2 : tie.Need-known-at-requires-2
 known-at-requires-2 c κs =
-    let pre° = c .before .before .before .before .before .before .before .before .before .pre in
-    let node-at° = c .before .before .before .before .before .before .node-at in
-    omega (arith, joins-right (pre° .0) (node-at° .ensures .0) (omega arith) (omega arith), pre° .1, pre° .2 .long)
+    let pre° = c .before .before .before .before .before .before .before .pre in
+    let node-at° = c .before .before .before .before .node-at in
+    let if1° = c .before .before .before .if1 in
+    omega (arith, joins-right (pre° .0) (node-at° .ensures .0) (omega (arith, if1° .left, c .before .if2 .left)) (omega (arith, c .if3 .taken)), pre° .1, pre° .2 .long)
 
 joined-requires : tie.Need-joined-requires
 joined-requires c κs = search needs
 
-returns-5 : tie.Need-returns-5
-returns-5 c =
-    let pre° = c .before .before .before .before .before .before .before .before .before .before .before .pre in
-    let node-at° = c .before .before .before .before .before .before .before .before .node-at in
-    let if1° = c .before .before .before .before .before .before .before .if1 in
-    let if2° = c .before .before .before .before .before .before .if2 in
-    let if3° = c .before .before .before .before .before .if3 in
+returns-3 : tie.Need-returns-3
+returns-3 c =
+    let pre° = c .before .before .before .before .before .before .before .before .before .pre in
+    let node-at° = c .before .before .before .before .before .before .node-at in
+    let if1° = c .before .before .before .before .before .if1 in
     let known-at° = c .before .before .before .before .known-at in
-    let if4° = c .before .before .before .if4 in
-    let if5° = c .before .before .if5 in
+    let if2° = c .before .before .before .if2 in
+    let if3° = c .before .before .if3 in
     let known-at2° = c .before .known-at2 in
     right-gate (pre° .0) (node-at° .ensures .0)
-    (omega (arith, if1° .left, if2° .left, if3° .left, if4° .left)) (omega (arith, if5° .taken)) refl
+    (omega (arith, if1° .left, if2° .left)) (omega (arith, if3° .taken)) refl
     (judged-at (pre° .2) (known-at° .ensures .0) (known-at° .ensures .1))
     (judged-at (pre° .2) (known-at2° .ensures .0) (known-at2° .ensures .1))
     (c .joined .ensures)
@@ -85,13 +69,13 @@ decided-requires c κs = search needs
 bound-requires : tie.Need-bound-requires
 bound-requires c κs = search needs
 
-returns-6 : tie.Need-returns-6
-returns-6 c =
-    let pre° = c .before .before .before .before .before .before .before .before .before .before .before .pre in
-    let node-at° = c .before .before .before .before .before .before .before .before .node-at in
+returns-4 : tie.Need-returns-4
+returns-4 c =
+    let pre° = c .before .before .before .before .before .before .before .before .before .pre in
+    let node-at° = c .before .before .before .before .before .before .node-at in
     let known-at° = c .before .before .before .before .known-at in
-    let if5° = c .before .before .if5 in
-    right-binds (pre° .0) (node-at° .ensures .0) (omega (arith, if5° .left)) (c .before .decided .ensures)
+    let if3° = c .before .before .if3 in
+    right-binds (pre° .0) (node-at° .ensures .0) (omega (arith, if3° .left)) (c .before .decided .ensures)
     (judged-at (pre° .2) (known-at° .ensures .0) (known-at° .ensures .1))
     (c .bound .ensures)
 
@@ -100,18 +84,14 @@ judge-node-spec =
     tie.close
     (tie.spec
     node-at-requires
+    leaf-requires
     returns
-    returns-2
-    variable-requires
-    input-requires
-    returns-3
     known-at-requires
     negated-requires
-    returns-4
-    sub-joined
+    returns-2
     known-at-requires-2
     joined-requires
-    returns-5
+    returns-3
     decided-requires
     bound-requires
-    returns-6)
+    returns-4)
