@@ -9,7 +9,7 @@ use Rattle.text.specs.Line.{frameBytes}
 use Rattle.text.specs.Answer.{answerLine}
 use Rattle.prenex.specs.Question.{Question, Contingent}
 use Rattle.prenex.specs.Kinds.{kinds, sheetOf}
-use Rattle.qdimacs.specs.Page.{Written, WellFormed}
+use Rattle.dimacs.specs.Page.{Written, WellFormed}
 use Rattle.qdimacs.specs.Reading.{Large, Small}
 
 -- a refusal is printed as bin/interlock prints one

@@ -15,7 +15,7 @@ use Rattle.text.specs.LineStores.{lines-length}
 use Rattle.prenex.specs.Question.{Question, Contingent}
 use Rattle.prenex.specs.Kinds.{kinds, sheetOf}
 use Rattle.prenex.specs.SheetLaws.{sheet-length}
-use Rattle.qdimacs.specs.Page.{Written}
+use Rattle.dimacs.specs.Page.{Written}
 use Rattle.qdimacs.specs.Reading.{sheetRoom, Small, Read, short, accepted}
 use Rattle.qdimacs.specs.Reading as Reading
 use Rattle.from_qdimacs.specs.Converted.{Converted, malformed, large, settled, converted, Prints}

@@ -21,13 +21,13 @@ use Rattle.prenex.specs.StoreLaws.{store-append}
 use Rattle.prenex.specs.SizeLaws.{many-literals, many-blocks, kinds-length}
 use Rattle.prenex.specs.MatrixLaws.{matrix-stands}
 use Rattle.prenex.specs.QuestionLaws.{clauses-below}
-use Rattle.qdimacs.specs.Page.{page}
-use Rattle.qdimacs.specs.Row.{header, codesFrom, wordsFrom}
-use Rattle.qdimacs.specs.RowLaws.{codes-page, words-page}
+use Rattle.dimacs.specs.Page.{page}
+use Rattle.dimacs.specs.Row.{header, codesFrom, wordsFrom}
+use Rattle.dimacs.specs.RowLaws.{codes-page, words-page}
+use Rattle.dimacs.specs.declared.token.Token.{Token}
 use Rattle.qdimacs.specs.Reading.{Arranged, Arrays, Builds}
 use Rattle.qdimacs.specs.MatrixAsked.{Matrix, Judged}
 use Rattle.qdimacs.specs.declared.build.Built.{Built}
-use Rattle.qdimacs.specs.declared.token.Token.{Token}
 
 -- ---- too many frames
 

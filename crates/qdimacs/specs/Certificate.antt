@@ -8,8 +8,8 @@ use lib.ListN.{length, drop}
 use Rattle.prenex.specs.Question.{Question, Contingent}
 use Rattle.prenex.specs.Kinds.{sheetOf}
 use Rattle.prenex.specs.QuestionLaws.{SheetOf, question-sheet}
-use Rattle.qdimacs.specs.Page.{Written, WellFormed}
-use Rattle.qdimacs.specs.OneQuestion.{written-one}
+use Rattle.dimacs.specs.Page.{Written, WellFormed}
+use Rattle.dimacs.specs.OneQuestion.{written-one}
 use Rattle.qdimacs.specs.Reading.{sheetRoom, Large, Small, Read, short, malformed, large, settled, accepted}
 
 -- a buffer with room, and the text of a question that is small enough and whose matrix is neither always true nor always false

@@ -8,12 +8,12 @@ use lib.ListN.{length, drop}
 use Rattle.words.specs.Logic.{clash}
 use Rattle.prenex.specs.Question.{Question, Literal, Clause, Proper, Every, every-one, SomeBelow}
 use Rattle.prenex.specs.Every.{every-first}
-use Rattle.qdimacs.specs.Token.{behindComments, tokens}
-use Rattle.qdimacs.specs.Page.{page, Written, WellFormed}
-use Rattle.qdimacs.specs.Shape.{start, run, whole}
-use Rattle.qdimacs.specs.ShapeLaws.{proper-shaped, page-whole, whole-page}
-use Rattle.qdimacs.specs.Row.{header, properAtoms}
-use Rattle.qdimacs.specs.RowLaws.{atoms-proper, proper-atoms}
+use Rattle.dimacs.specs.Token.{behindComments, tokens}
+use Rattle.dimacs.specs.Page.{page, Written, WellFormed}
+use Rattle.dimacs.specs.Shape.{start, run, whole}
+use Rattle.dimacs.specs.ShapeLaws.{proper-shaped, page-whole, whole-page}
+use Rattle.dimacs.specs.Row.{header, properAtoms}
+use Rattle.dimacs.specs.RowLaws.{atoms-proper, proper-atoms}
 use Rattle.qdimacs.specs.Reading.{Headed, ill, well}
 use Rattle.qdimacs.specs.declared.check.Header.{Header}
 

@@ -11,8 +11,8 @@ use Rattle.sheet.specs.Refusal as Number
 use Rattle.prenex.specs.Question.{Question, Proper, Contingent}
 use Rattle.prenex.specs.Kinds.{kinds, sheetOf}
 use Rattle.prenex.specs.SheetLaws.{sheet-length}
-use Rattle.qdimacs.specs.Token.{behindComments, tokens}
-use Rattle.qdimacs.specs.Page.{page, Written, WellFormed}
+use Rattle.dimacs.specs.Token.{behindComments, tokens}
+use Rattle.dimacs.specs.Page.{page, Written, WellFormed}
 use Rattle.qdimacs.specs.Reading.{sheetRoom, Small, Read, short, malformed, large, settled, accepted, Headed, ill, well, Asked, Builds}
 use Rattle.qdimacs.specs.CheckLaws.{some-variable}
 use Rattle.qdimacs.specs.declared.check.Header.{Header}

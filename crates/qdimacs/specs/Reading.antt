@@ -11,8 +11,8 @@ use Rattle.prenex.specs.Question.{Question, Proper, Contingent}
 use Rattle.prenex.specs.Kinds.{kinds, sheetOf}
 use Rattle.prenex.specs.Code.{codesOf}
 use Rattle.prenex.specs.CodeLaws.{Words}
-use Rattle.qdimacs.specs.Page.{page, Written, WellFormed}
-use Rattle.qdimacs.specs.Token.{tokens, behindComments}
+use Rattle.dimacs.specs.Page.{page, Written, WellFormed}
+use Rattle.dimacs.specs.Token.{tokens, behindComments}
 use Rattle.qdimacs.specs.declared.check.Header.{Header}
 use Rattle.qdimacs.specs.declared.build.Built.{Built}
 

@@ -5,11 +5,11 @@ ghost use Prim.Native.Nat.{_≤_};
 ghost use lib.ListN.{length, drop};
 ghost use Rattle.prenex.specs.Question.{Question, Proper};
 ghost use Rattle.prenex.specs.Code.{clausesOf};
-ghost use Rattle.qdimacs.specs.Token.{tokens};
-ghost use Rattle.qdimacs.specs.Page.{page};
+ghost use Rattle.dimacs.specs.Token.{tokens};
+ghost use Rattle.dimacs.specs.Page.{page};
 ghost use Rattle.qdimacs.specs.Reading.{Asked, Arranged, Arrays, Builds};
 ghost use Rattle.qdimacs.specs.MatrixAsked.{Matrix, Judged};
-use crate::decode;
+use dimacs::decode;
 
 // How many frames there are, or that they are too many for a sheet; and whether the matrix is neither always true nor always false.
 pub struct Built {

@@ -1,9 +1,9 @@
 // Whether a text is well formed.
 ghost use mathlib.Core.Path.{_≡_};
 ghost use Rattle.qdimacs.specs.Reading.{Headed};
-use crate::atoms;
-use crate::comments;
-use crate::shape;
+use dimacs::atoms;
+use dimacs::comments;
+use dimacs::shape;
 
 // Where the fields begin, and the variables of the problem line; 0 variables if the text is not well formed.
 pub struct Header {

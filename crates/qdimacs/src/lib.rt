@@ -1,11 +1,6 @@
 // QDIMACS 1.1: prenex questions in clauses, read into sheets.
-mod atoms;
 mod build;
 mod check;
-mod comments;
-mod decode;
-mod shape;
-mod token;
 
 use sheet::refusal;
 ghost use mathlib.Core.List.{_++_};

@@ -3,8 +3,8 @@ use borrow.Author.Needs.{needs}
 use native.Mathlib.Omega.{arith}
 use mathlib.Core.Path.{ap, _∙_}
 use lib.ListN.{length, drop}
-use Rattle.qdimacs.specs.Token.{tokens}
-use Rattle.qdimacs.specs.Row.{header, codesFrom, wordsFrom}
+use Rattle.dimacs.specs.Token.{tokens}
+use Rattle.dimacs.specs.Row.{header, codesFrom, wordsFrom}
 use Rattle.qdimacs.specs.BuildLaws.{builds-large, many-codes, many-words, codes-here, words-here, stored-length, arranged-here}
 use Rattle.qdimacs.proofs.build.build.Statement.{statement}
 use Rattle.qdimacs.proofs.build.build.Tie as tie

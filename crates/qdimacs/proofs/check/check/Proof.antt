@@ -2,9 +2,9 @@
 use borrow.Author.Needs.{needs}
 use borrow.Author.Tests.{not-true, not-false}
 use mathlib.Core.Path.{refl, sym, ap, _∙_}
-use Rattle.qdimacs.specs.Shape.{whole}
+use Rattle.dimacs.specs.Shape.{whole}
+use Rattle.dimacs.specs.declared.shape.State.{State}
 use Rattle.qdimacs.specs.CheckLaws.{shape-broken, atoms-broken, text-well}
-use Rattle.qdimacs.specs.declared.shape.State.{State}
 use Rattle.qdimacs.proofs.check.check.Statement.{statement}
 use Rattle.qdimacs.proofs.check.check.Tie as tie
 
