@@ -4,7 +4,6 @@ use native.Mathlib.Omega.{arith}
 use mathlib.Core.Path.{_≡_, refl, sym, _∙_, ap}
 use mathlib.Core.Bool.{Bool, true, false, not, _&&_}
 use mathlib.Core.List.{List}
-use lib.ListN.{length}
 use lib.Bits.{bitAnd}
 use Rattle.words.specs.Logic.{clash}
 use Rattle.words.specs.Word.{bit}
@@ -25,7 +24,7 @@ use Rattle.net.specs.Layout.{framesOf, freeOf, formulaAt, val}
 use Rattle.search.specs.Search.{Found, Lost}
 use Rattle.solver.specs.Contract.{last, root, Ready, TablesGrown, Promised, Same}
 use Rattle.solver.specs.Across.{found-stands, lost-stands, root-stands, root-bounded, bit-opens, tables-net, grown-sheet}
-use Rattle.solver.specs.Question.{scratchWords, blank, Asking}
+use Rattle.solver.specs.Question.{Asking}
 
 -- a record that matches is kept, and the table stays true where the reason holds
 pub record Ensured (t : List ℕ) (count : ℕ) (t' : List ℕ) (count' frame assigned setting reason : ℕ) : Type 0 where
@@ -57,9 +56,9 @@ module _ {s net : List ℕ} {mask values : ℕ} {u : List ℕ} {cu : ℕ} {o : L
   ready-bounded = root-bounded (R .net-of) ready-some
 
   -- a question for the truth t over a cube m, w of entered variables
-  pub ready-asking : (t : ℕ) {f loose m w : ℕ} {cells wants : List ℕ} → 0 < t → t < 3 → f ≡ freeOf net → loose ≡ without f m → Sub m mask → Sub w m
-      → cells ≡ blank → length wants ≡ scratchWords → Asking s net t loose m w cells wants u cu o co
-  ready-asking t a b e l i j c d = record {
+  pub ready-asking : (t : ℕ) {f loose m w : ℕ} → 0 < t → t < 3 → f ≡ freeOf net → loose ≡ without f m → Sub m mask → Sub w m
+      → Asking s net t loose m w u cu o co
+  ready-asking t a b e l i j = record {
     net-of = R .net-of;
     some = ready-some;
     target-some = a;
@@ -67,15 +66,13 @@ module _ {s net : List ℕ} {mask values : ℕ} {u : List ℕ} {cu : ℕ} {o : L
     assigned = sub-trans i (R .entered);
     valued = j;
     loose-is = rw e at l;
-    cells-are = c;
-    long = d;
     tables = tables-net (R .net-of) (R .tables);
   }
 
   -- over the entries
-  pub entered-asking : (t : ℕ) {f loose m w : ℕ} {cells wants : List ℕ} → 0 < t → t < 3 → f ≡ freeOf net → loose ≡ without f mask → Made mask values m w
-      → cells ≡ blank → length wants ≡ scratchWords → Asking s net t loose m w cells wants u cu o co
-  entered-asking t a b e l M c d = ready-asking t a b e (rw (M .mask) l) (rw (M .mask) (sub-refl mask)) (made-sub M) c d
+  pub entered-asking : (t : ℕ) {f loose m w : ℕ} → 0 < t → t < 3 → f ≡ freeOf net → loose ≡ without f mask → Made mask values m w
+      → Asking s net t loose m w u cu o co
+  entered-asking t a b e l M = ready-asking t a b e (rw (M .mask) l) (rw (M .mask) (sub-refl mask)) (made-sub M)
 
   -- what is found or lost is so of the sheet
   pub ready-found : {v : Bool} {loose w word r : ℕ} → Found (formulaAt net (framesOf net - 1)) v loose w word r → Found (root s) v loose w word r

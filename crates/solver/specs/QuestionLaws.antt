@@ -4,6 +4,7 @@ use native.Mathlib.Omega.{arith}
 use mathlib.Core.Path.{_≡_, refl, sym, _∙_, ap}
 use mathlib.Core.Bool.{Bool, true, false, not, _&&_}
 use mathlib.Core.List.{List}
+use lib.ListN.{length, replicate}
 use Rattle.words.specs.Logic.{clash, and-both}
 use Rattle.words.specs.Word.{bit}
 use Rattle.words.specs.Mask.{Sub, Apart, without, bit-without, without-sum, without-sub, without-apart, apart-sub, apart-sym}
@@ -12,15 +13,16 @@ use Rattle.records.specs.Both.{TablesGrown}
 use Rattle.net.specs.Over.{over-free}
 use Rattle.net.specs.Net.{Binds, at-binds}
 use Rattle.net.specs.Stands.{Stands, stands-refl}
-use Rattle.net.specs.Layout.{framesOf, freeOf, packed, formulaAt, Ground, Is, val, decides}
+use Rattle.net.specs.Layout.{framesOf, freeOf, packed, formulaAt, Ground, HasNode, Is, val, decides}
 use Rattle.net.specs.Own.{Chosen}
 use Rattle.net.specs.OwnLaws.{chosen-count, chosen-long, chosen-ground, chosen-same, chosen-node, chosen-clear, is-chosen, is-chosen-val}
+use Rattle.judge.specs.Judge.{Judged}
 use Rattle.judge.specs.JudgeLaws.{judged-none}
 use Rattle.search.specs.Search.{Solved, Checked, Lent}
 use Rattle.solver.specs.Across.{tables-stands, grown-stands, root-stands, bit-opens}
 use Rattle.solver.specs.Question.{scratchWords, Asking}
 
-module _ {s net : List ℕ} {t loose m w : ℕ} {cells wants u : List ℕ} {cu : ℕ} {o : List ℕ} {co : ℕ} (A : Asking s net t loose m w cells wants u cu o co)
+module _ {s net : List ℕ} {t loose m w : ℕ} {u : List ℕ} {cu : ℕ} {o : List ℕ} {co : ℕ} (A : Asking s net t loose m w u cu o co)
     {net′ : List ℕ} (C : Chosen net t loose net′) where
   loose-sub : Sub loose (freeOf net)
   loose-sub = rw (A .loose-is) (without-sub (freeOf net) m)
@@ -57,18 +59,22 @@ module _ {s net : List ℕ} {t loose m w : ℕ} {cells wants u : List ℕ} {cu :
       go true false e f = f
       go false b e f = clash false e refl
 
-  pub asked-checked : {i : ℕ} → i ≡ framesOf net′ → Checked net′ i m w cells
-  asked-checked e = rw e (record {
+  -- in scratch that is all 0 nothing is known
+  pub asked-blank : {cells : List ℕ} → cells ≡ replicate scratchWords 0 → Judged net′ m w cells
+  asked-blank e = judged-none scratchWords e (omega (arith, chosen-long (A .net-of) loose-sub C, A .net-of .long))
+
+  pub asked-checked : {i : ℕ} {cells : List ℕ} → i ≡ framesOf net′ → Judged net′ m w cells → Checked net′ i m w cells
+  asked-checked e j = rw e (record {
     ground = asked-ground;
     here = omega arith;
     covers = record { all = covered };
     clear = chosen-clear (A .net-of) loose-sub C (A .assigned) loose-apart;
-    judged = judged-none scratchWords (A .cells-are) (omega (arith, chosen-long (A .net-of) loose-sub C, A .net-of .long));
+    judged = j;
   })
 
-  pub asked-lent : Lent net′ wants u cu o co
-  asked-lent = record {
-    long = omega (arith, chosen-long (A .net-of) loose-sub C, A .net-of .long, A .long);
+  pub asked-lent : {wants : List ℕ} → length wants ≡ scratchWords → Lent net′ wants u cu o co
+  asked-lent l = record {
+    long = omega (arith, chosen-long (A .net-of) loose-sub C, A .net-of .long, l);
     tables = tables-stands frame-stood (rw (chosen-count (A .net-of) loose-sub C) (A .tables));
   }
 
@@ -84,6 +90,10 @@ module _ {s net : List ℕ} {t loose m w : ℕ} {cells wants u : List ℕ} {cu :
 
     same-left : left ≡ framesOf net - 1
     same-left = is-chosen I here-is .3
+
+    -- there is a place for its body
+    pub asked-body : HasNode net′ left
+    asked-body = rw same-left (omega (arith, asked-ground .room, chosen-count (A .net-of) loose-sub C))
 
     same-truth : decides op ≡ t
     same-truth = is-chosen-val I here-is (A .target-some) (A .target-low) .1

@@ -4,7 +4,6 @@ use native.Mathlib.Omega.{arith}
 use mathlib.Core.Path.{_≡_, refl, sym, _∙_, ap}
 use mathlib.Core.Bool.{true, false, not}
 use mathlib.Core.List.{List}
-use lib.ListN.{length}
 use lib.Dec.{eqb}
 use borrow.Author.Tests.{eqb-true}
 use Rattle.words.specs.Logic.{by-bool, clash, not-not}
@@ -20,7 +19,7 @@ use Rattle.net.specs.Layout.{framesOf, freeOf, formulaAt, val, val-flip}
 use Rattle.search.specs.Search.{Found, Lost}
 use Rattle.imply.specs.Halves.{bit-plus, off-mask, or-none}
 use Rattle.solver.specs.Contract.{root, Ready, TablesGrown, Same}
-use Rattle.solver.specs.Question.{scratchWords, blank, Asking}
+use Rattle.solver.specs.Question.{Asking}
 use Rattle.solver.specs.Ask.{ready-bounded, ready-asking, ready-found, ready-lost, ready-grown, reason-inside, reason-free, word-free, ask-found, ask-lost}
 
 -- what is left of w is the cube m, y, inside which the variables of r force the last frame's truth v
@@ -63,9 +62,8 @@ module _ {s net : List ℕ} {m y : ℕ} {u : List ℕ} {cu : ℕ} {o : List ℕ}
       ap (λ (z : ℕ). bit z k) values-are ∙ off-mask y (2 ^ x) k (bits-apart (without-apart m (2 ^ x)) k c) ∙ h k (bits-sub (without-sub m (2 ^ x)) k c)
 
   -- the search for the other truth with x dropped
-  pub less-asking : {f loose : ℕ} {cells wants : List ℕ} → f ≡ freeOf net → loose ≡ without f m′ → cells ≡ blank → length wants ≡ scratchWords
-      → Asking s net (3 - v) loose m′ y′ cells wants u cu o co
-  less-asking e d c n = ready-asking R (3 - v) (omega arith) (omega arith) e d less-sub (freed-sub F (R .valued)) c n
+  pub less-asking : {f loose : ℕ} → f ≡ freeOf net → loose ≡ without f m′ → Asking s net (3 - v) loose m′ y′ u cu o co
+  less-asking e d = ready-asking R (3 - v) (omega arith) (omega arith) e d less-sub (freed-sub F (R .valued))
 
   -- it is outside the proved reason
   pub turned-idle : {r : ℕ} → bit r x ≡ false → Turned s v m y r x m′ y′ r
@@ -191,34 +189,27 @@ pub record Reducing (s net : List ℕ) (v m₀ w : ℕ) (u₀ : List ℕ) (cu₀
   pub kept : TablesGrown s u₀ cu₀ o₀ co₀ u cu o co
 
 -- for every sheet whose net it is
-pub record Turning (net : List ℕ) (v m₀ w r₀ : ℕ) (u₀ : List ℕ) (cu₀ : ℕ) (o₀ : List ℕ) (co₀ x m y r : ℕ) (now cells wants u : List ℕ) (cu : ℕ) (o : List ℕ) (co : ℕ) : Type 0 where
+pub record Turning (net : List ℕ) (v m₀ w r₀ : ℕ) (u₀ : List ℕ) (cu₀ : ℕ) (o₀ : List ℕ) (co₀ x m y r : ℕ) (now u : List ℕ) (cu : ℕ) (o : List ℕ) (co : ℕ) : Type 0 where
   pub low : x ≤ 32
   pub same : now ≡ net
-  pub cells-are : cells ≡ blank
-  pub long : length wants ≡ scratchWords
   pub each : (s : List ℕ) → Ready s net m₀ w u₀ cu₀ o₀ co₀ → Held s v w m₀ w r₀ → Reducing s net v m₀ w u₀ cu₀ o₀ co₀ x m y r u cu o co
 
-pub turning-start : {net : List ℕ} {v m w r : ℕ} {cells wants u : List ℕ} {cu : ℕ} {o : List ℕ} {co : ℕ} → cells ≡ blank → length wants ≡ scratchWords
-    → Turning net v m w r u cu o co 32 m w r net cells wants u cu o co
-turning-start c l = record {
+pub turning-start : {net : List ℕ} {v m w r : ℕ} {u : List ℕ} {cu : ℕ} {o : List ℕ} {co : ℕ} → Turning net v m w r u cu o co 32 m w r net u cu o co
+turning-start = record {
   low = omega arith;
   same = refl;
-  cells-are = c;
-  long = l;
   each = λ s R h. record { turned = refl; held = h; ready = R; kept = tables-same (R .tables) };
 }
 
-module _ {net : List ℕ} {v m₀ w r₀ : ℕ} {u₀ : List ℕ} {cu₀ : ℕ} {o₀ : List ℕ} {co₀ x m y r : ℕ} {now cells wants u : List ℕ} {cu : ℕ} {o : List ℕ} {co : ℕ}
-    (I : Turning net v m₀ w r₀ u₀ cu₀ o₀ co₀ x m y r now cells wants u cu o co) where
-  pub turning-next : {m′ y′ r′ : ℕ} {now′ cells′ wants′ u' : List ℕ} {cu' : ℕ} {o' : List ℕ} {co' : ℕ} → 0 < x
-      → now′ ≡ now → cells′ ≡ cells → length wants′ ≡ length wants
+module _ {net : List ℕ} {v m₀ w r₀ : ℕ} {u₀ : List ℕ} {cu₀ : ℕ} {o₀ : List ℕ} {co₀ x m y r : ℕ} {now u : List ℕ} {cu : ℕ} {o : List ℕ} {co : ℕ}
+    (I : Turning net v m₀ w r₀ u₀ cu₀ o₀ co₀ x m y r now u cu o co) where
+  pub turning-next : {m′ y′ r′ : ℕ} {now′ u' : List ℕ} {cu' : ℕ} {o' : List ℕ} {co' : ℕ} → 0 < x
+      → now′ ≡ now
       → ((s : List ℕ) → Ready s now m y u cu o co → Turned s v m y r (x - 1) m′ y′ r′ × TablesGrown s u cu o co u' cu' o' co')
-      → Turning net v m₀ w r₀ u₀ cu₀ o₀ co₀ (x - 1) m′ y′ r′ now′ cells′ wants′ u' cu' o' co'
-  turning-next {m′} {y′} {r′} {u' = u'} {cu' = cu'} {o' = o'} {co' = co'} p e c l t = record {
+      → Turning net v m₀ w r₀ u₀ cu₀ o₀ co₀ (x - 1) m′ y′ r′ now′ u' cu' o' co'
+  turning-next {m′} {y′} {r′} {u' = u'} {cu' = cu'} {o' = o'} {co' = co'} p e t = record {
     low = omega (arith, I .low);
     same = e ∙ I .same;
-    cells-are = c ∙ I .cells-are;
-    long = l ∙ I .long;
     each = λ s R h. step s (I .each s R h) (rw (I .same) at (t s));
   }
     where

@@ -7,11 +7,9 @@ use words::w64;
 ghost use mathlib.Core.Path.{_≡_};
 ghost use mathlib.Core.List.{List};
 ghost use Prim.Native.Nat.{ℕ, _<_};
-ghost use lib.ListN.{length};
 ghost use Rattle.formula.specs.Why.{why, reduce};
 ghost use Rattle.net.specs.Layout.{val};
 ghost use Rattle.solver.specs.Contract.{root, Ready, TablesGrown, Same};
-ghost use Rattle.solver.specs.Question.{blank, scratchWords};
 ghost use Rattle.solver.specs.Why.{Held, Turned};
 
 // What is left of a reason's start, and a reason inside it that a proof has shown.
@@ -28,15 +26,13 @@ fn dropped(
     cube: Cube64,
     reason: u64,
     variable: u8,
-    cells: &mut [u64],
-    wants: &mut [u64],
     under: &mut [u32],
     over: &mut [u32],
     kept: Counts,
 ) -> Left
-    requires { ⌜ (0 < v) × (v < 3) × (variable < 64) × (now cells ≡ blank) × (length (now wants) ≡ scratchWords) ⌝ }
+    requires { ⌜ (0 < v) × (v < 3) × (variable < 64) ⌝ }
     requires { ⌜ ((s : List ℕ) × Ready s (now net) (cube .mask) (cube .values) (now under) (kept .under) (now over) (kept .over)) ⌝ }
-    ensures { λ r. ⌜ (now (net .exit) ≡ now (net .entry)) × (now (cells .exit) ≡ now (cells .entry)) × (length (now (wants .exit)) ≡ length (now (wants .entry))) ⌝ }
+    ensures { λ r. ⌜ now (net .exit) ≡ now (net .entry) ⌝ }
     ensures { λ r. ⌜ ((s : List ℕ) → Ready s (now (net .entry)) (cube .mask) (cube .values) (now (under .entry)) (kept .under) (now (over .entry)) (kept .over) → Turned s v (cube .mask) (cube .values) reason variable (r .cube .mask) (r .cube .values) (r .reason) × TablesGrown s (now (under .entry)) (kept .under) (now (over .entry)) (kept .over) (now (under .exit)) (r .kept .under) (now (over .exit)) (r .kept .over)) ⌝ }
 {
     if !w64::has(cube.mask, variable) {
@@ -51,7 +47,7 @@ fn dropped(
         };
     }
     let loose = w64::without(net::free(&net[..]), less.mask);
-    let s = solve(net, 3 - v, loose, less, cells, wants, under, over, kept);
+    let s = solve(net, 3 - v, loose, less, under, over, kept);
     let after = s.kept;
     if s.found {
         return Left {
@@ -73,13 +69,11 @@ fn reduced(
     v: u8,
     cube: Cube64,
     reason: u64,
-    cells: &mut [u64],
-    wants: &mut [u64],
     under: &mut [u32],
     over: &mut [u32],
     kept: Counts,
 ) -> Left
-    requires { ⌜ (0 < v) × (v < 3) × (now cells ≡ blank) × (length (now wants) ≡ scratchWords) ⌝ }
+    requires { ⌜ (0 < v) × (v < 3) ⌝ }
     requires { ⌜ ((s : List ℕ) × Ready s (now net) (cube .mask) (cube .values) (now under) (kept .under) (now over) (kept .over) × Held s v (cube .values) (cube .mask) (cube .values) reason) ⌝ }
     ensures { λ r. ⌜ now (net .exit) ≡ now (net .entry) ⌝ }
     ensures { λ r. ⌜ ((s : List ℕ) → Ready s (now (net .entry)) (cube .mask) (cube .values) (now (under .entry)) (kept .under) (now (over .entry)) (kept .over) → Held s v (cube .values) (cube .mask) (cube .values) reason → (r .cube .mask ≡ reduce 32 (root s) (cube .values) (val v) 32 (cube .mask)) × TablesGrown s (now (under .entry)) (kept .under) (now (over .entry)) (kept .over) (now (under .exit)) (r .kept .under) (now (over .exit)) (r .kept .over)) ⌝ }
@@ -90,18 +84,7 @@ fn reduced(
         x -= 1;
         let last = left.cube;
         let counts = left.kept;
-        left = dropped(
-            net,
-            v,
-            last,
-            left.reason,
-            x,
-            cells,
-            wants,
-            under,
-            over,
-            counts,
-        );
+        left = dropped(net, v, last, left.reason, x, under, over, counts);
     }
     left
 }
@@ -119,21 +102,9 @@ pub fn why(
     ensures { λ r. ⌜ now (net .exit) ≡ now (net .entry) ⌝ }
     ensures { λ r. ⌜ ((s : List ℕ) → Ready s (now (net .entry)) mask values (now (under .entry)) (kept .under) (now (over .entry)) (kept .over) → Same (why 32 (root s) mask values) (r .holds) (r .word) × TablesGrown s (now (under .entry)) (kept .under) (now (over .entry)) (kept .over) (now (under .exit)) (r .kept .under) (now (over .exit)) (r .kept .over)) ⌝ }
 {
-    let mut cells = [0u64; 402];
-    let mut wants = [0u64; 402];
     let free = net::free(&net[..]);
     let entered = Cube64::of(mask, values);
-    let s = solve(
-        net,
-        2,
-        w64::without(free, mask),
-        entered,
-        &mut cells,
-        &mut wants,
-        under,
-        over,
-        kept,
-    );
+    let s = solve(net, 2, w64::without(free, mask), entered, under, over, kept);
     let after = s.kept;
     if s.found {
         let left = reduced(
@@ -141,8 +112,6 @@ pub fn why(
             2,
             Cube64::of(free, s.word),
             s.reason,
-            &mut cells,
-            &mut wants,
             under,
             over,
             after,
@@ -154,17 +123,7 @@ pub fn why(
             kept: end,
         };
     }
-    let left = reduced(
-        net,
-        1,
-        entered,
-        s.reason,
-        &mut cells,
-        &mut wants,
-        under,
-        over,
-        after,
-    );
+    let left = reduced(net, 1, entered, s.reason, under, over, after);
     let end = left.kept;
     Answered {
         holds: false,

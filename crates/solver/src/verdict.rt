@@ -52,8 +52,6 @@ pub fn ask(
     ensures { λ r. ⌜ now (net .exit) ≡ now (net .entry) ⌝ }
     ensures { λ r. ⌜ ((s : List ℕ) → Ready s (now (net .entry)) mask values (now (under .entry)) (kept .under) (now (over .entry)) (kept .over) → Same (ask 32 (root s) mask values) (r .holds) (r .word) × TablesGrown s (now (under .entry)) (kept .under) (now (over .entry)) (kept .over) (now (under .exit)) (r .kept .under) (now (over .exit)) (r .kept .over) × Promised s mask values (ask 32 (root s) mask values) (now (under .exit)) (r .kept .under) (now (over .exit)) (r .kept .over)) ⌝ }
 {
-    let mut cells = [0u64; 402];
-    let mut wants = [0u64; 402];
     let free = net::free(&net[..]);
     let last = net::frames(&net[..]) - 1;
     let s = solve(
@@ -61,8 +59,6 @@ pub fn ask(
         2,
         w64::without(free, mask),
         Cube64::of(mask, values),
-        &mut cells,
-        &mut wants,
         under,
         over,
         kept,

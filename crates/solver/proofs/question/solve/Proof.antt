@@ -1,83 +1,70 @@
 -- `solver::question::solve` meets its contract: the search of the quantifier that the question put behind the frames. Assumes nothing.
 use native.Mathlib.Omega.{arith}
 use borrow.Author.Needs.{needs}
-use mathlib.Core.Path.{ap}
+use mathlib.Core.Path.{ap, refl, _∙_}
 use lib.ListN.{length}
 use Rattle.net.specs.OwnLaws.{forgotten-back}
-use Rattle.solver.specs.QuestionLaws.{asked-ground, asked-checked, asked-lent, asked-binds, asked-solved, asked-grown}
+use Rattle.solver.specs.QuestionLaws.{asked-ground, asked-blank, asked-checked, asked-lent, asked-binds, asked-body, asked-solved, asked-grown}
 use Rattle.solver.proofs.question.solve.Statement.{statement}
 use Rattle.solver.proofs.question.solve.Tie as tie
 
 choose-requires : tie.Need-choose-requires
-choose-requires c κs =
-    let pre° = c .before .before .before .before .before .before .pre in
-    (pre° .1 .net-of .ground, pre° .1 .some, pre° .1 .target-some, pre° .1 .target-low)
+choose-requires c κs = search needs
 
 frames-requires : tie.Need-frames-requires
-frames-requires c κs =
-    let pre° = c .before .before .before .before .before .before .before .before .before .before .pre in
-    let choose° = c .before .before .before .choose in
-    omega (arith, asked-ground (pre° .1) (choose° .ensures) .room)
+frames-requires c κs = search needs
 
 node-at-requires : tie.Need-node-at-requires
-node-at-requires c κs =
-    let frames° = c .before .frames in
-    let pre° = c .before .before .before .before .before .before .before .before .before .before .before .before .pre in
-    let choose° = c .before .before .before .before .before .choose in
-    rw (frames° .ensures) (asked-ground (pre° .1) (choose° .ensures) .room)
+node-at-requires c κs = rw (c .before .frames .ensures) (asked-ground (c .before .before .before .before .before .before .before .before .before .before .pre .1) (c .before .before .before .before .before .choose .ensures) .room)
 
 fresh-requires : tie.Need-fresh-requires
 fresh-requires c κs = search needs
 
+slice-aggregate-judge : tie.Need-slice-aggregate-judge
+slice-aggregate-judge c = search needs
+
+judge-requires : tie.Need-judge-requires
+judge-requires c κs =
+    let asked = c .before .before .before .before .before .before .before .before .before .before .before .before .before .before .pre .1 in
+    let chosen = c .before .before .before .before .before .before .before .before .before .choose .ensures in (
+      asked-ground asked chosen,
+      asked-body asked chosen (c .before .before .before .before .before .frames .ensures) (c .before .before .before .node-at .ensures .0),
+      asked-blank asked chosen refl,
+    )
+
+slice-aggregate-choose : tie.Need-slice-aggregate-choose
+slice-aggregate-choose c = search needs
+
+slice-aggregate-choose-2 : tie.Need-slice-aggregate-choose-2
+slice-aggregate-choose-2 c = search needs
+
 choose-requires-2 : tie.Need-choose-requires-2
 choose-requires-2 c κs =
-    let node-at° = c .before .before .before .before .before .before .node-at in
-    let pre° = c .before .before .before .before .before .before .before .before .before .before .before .before .before .before .before .before .before .before .before .pre in
-    let choose° = c .before .before .before .before .before .before .before .before .before .before .before .before .choose in
-    let frames° = c .before .before .before .before .before .before .before .before .frames in
-    ((node-at° .ensures .0, asked-binds (pre° .1) (choose° .ensures) (frames° .ensures) (node-at° .ensures .0)), (asked-checked (pre° .1) (choose° .ensures) (frames° .ensures), asked-lent (pre° .1) (choose° .ensures)))
+    let asked = c .before .before .before .before .before .before .before .before .before .before .before .before .before .before .before .before .before .before .before .before .before .pre .1 in
+    let chosen = c .before .before .before .before .before .before .before .before .before .before .before .before .before .before .before .before .choose .ensures in
+    let own = c .before .before .before .before .before .before .before .before .before .before .before .before .frames .ensures in
+    let node = c .before .before .before .before .before .before .before .before .before .before .node-at .ensures .0 in
+    ((node, asked-binds asked chosen own node), (asked-checked asked chosen own (c .before .before .before .before .before .before .judge .ensures .judged), asked-lent asked chosen refl))
 
 forget-requires : tie.Need-forget-requires
-forget-requires c κs =
-    let pre° = c .before .before .before .before .before .before .before .before .before .before .before .before .before .before .before .before .before .before .before .before .before .before .before .before .before .before .before .before .before .pre in
-    let choose° = c .before .before .before .before .before .before .before .before .before .before .before .before .before .before .before .before .before .before .before .before .before .before .choose in
-    asked-ground (pre° .1) (choose° .ensures)
+forget-requires c κs = asked-ground (c .before .before .before .before .before .before .before .before .before .before .before .before .before .before .before .before .before .before .before .before .before .before .before .before .before .before .before .before .before .pre .1) (c .before .before .before .before .before .before .before .before .before .before .before .before .before .before .before .before .before .before .before .before .before .before .before .before .choose .ensures)
 
 same-length : tie.Need-same-length
-same-length c =
-    let pre° = c .before .before .before .before .before .before .before .before .before .before .before .before .before .before .before .before .before .before .before .before .before .before .before .before .before .before .before .before .before .before .before .before .pre in
-    let choose° = c .before .before .before .before .before .before .before .before .before .before .before .before .before .before .before .before .before .before .before .before .before .before .before .before .before .choose in
-    let forget° = c .before .before .forget in
-    ap length (forgotten-back (pre° .1 .net-of) (choose° .ensures) (forget° .ensures))
+same-length c = ap length (forgotten-back (c .before .before .before .before .before .before .before .before .before .before .before .before .before .before .before .before .before .before .before .before .before .before .before .before .before .before .before .before .before .before .before .before .pre .1 .net-of) (c .before .before .before .before .before .before .before .before .before .before .before .before .before .before .before .before .before .before .before .before .before .before .before .before .before .before .before .choose .ensures) (c .before .before .forget .ensures))
 
 same-length-2 : tie.Need-same-length-2
-same-length-2 c =
-    let choose2° = c .before .before .before .before .before .before .before .before .before .before .before .before .choose2 in
-    ap length (choose2° .ensures .0 .1)
+same-length-2 c = search needs
 
 same-length-3 : tie.Need-same-length-3
-same-length-3 c = c .before .before .before .before .before .before .before .before .before .wants .given
-
-same-length-4 : tie.Need-same-length-4
-same-length-4 c =
-    let choose2° = c .before .before .before .before .before .before .before .before .before .before .before .before .choose2 in
-    choose2° .ensures .1 .under .same
-
-same-length-5 : tie.Need-same-length-5
-same-length-5 c =
-    let choose2° = c .before .before .before .before .before .before .before .before .before .before .before .before .choose2 in
-    choose2° .ensures .1 .over .same
+same-length-3 c = search needs
 
 returns : tie.Need-returns
 returns c =
-    let pre° = c .before .before .before .before .before .before .before .before .before .before .before .before .before .before .before .before .before .before .before .before .before .before .before .before .before .before .before .before .before .before .before .before .pre in
-    let choose° = c .before .before .before .before .before .before .before .before .before .before .before .before .before .before .before .before .before .before .before .before .before .before .before .before .before .choose in
-    let frames° = c .before .before .before .before .before .before .before .before .before .before .before .before .before .before .before .before .before .before .before .before .before .frames in
-    let node-at° = c .before .before .before .before .before .before .before .before .before .before .before .before .before .before .before .before .before .before .before .node-at in
-    let choose2° = c .before .before .before .before .before .before .before .before .before .before .before .before .choose2 in
-    let forget° = c .before .before .forget in (
-      asked-solved (pre° .1) (choose° .ensures) (frames° .ensures) (node-at° .ensures .0) (choose2° .result .found) (choose2° .result .word) (choose2° .result .reason) (choose2° .ensures .0 .0),
-      (asked-grown (pre° .1) (choose° .ensures) (choose2° .ensures .1), (forgotten-back (pre° .1 .net-of) (choose° .ensures) (forget° .ensures), choose2° .ensures .0 .1, c .before .before .before .before .before .before .before .before .before .wants .given)),
+    let asked = c .before .before .before .before .before .before .before .before .before .before .before .before .before .before .before .before .before .before .before .before .before .before .before .before .before .before .before .before .before .before .before .before .pre .1 in
+    let chosen = c .before .before .before .before .before .before .before .before .before .before .before .before .before .before .before .before .before .before .before .before .before .before .before .before .before .before .before .choose .ensures in
+    let found = c .before .before .before .before .before .before .before .before .before .before .choose2 in (
+      asked-solved asked chosen (c .before .before .before .before .before .before .before .before .before .before .before .before .before .before .before .before .before .before .before .before .before .before .before .frames .ensures) (c .before .before .before .before .before .before .before .before .before .before .before .before .before .before .before .before .before .before .before .before .before .node-at .ensures .0) (found .result .found) (found .result .word) (found .result .reason) (found .ensures .0 .0),
+      (asked-grown asked chosen (found .ensures .1), forgotten-back (asked .net-of) chosen (c .before .before .forget .ensures)),
     )
 
 pub solve-spec : {M : Type 1} → statement M
@@ -88,11 +75,13 @@ solve-spec =
     frames-requires
     node-at-requires
     fresh-requires
+    slice-aggregate-judge
+    judge-requires
+    slice-aggregate-choose
+    slice-aggregate-choose-2
     choose-requires-2
     forget-requires
     same-length
     same-length-2
     same-length-3
-    same-length-4
-    same-length-5
     returns)

@@ -16,7 +16,7 @@ returns : tie.Need-returns
 returns c =
     let has° = c .before .has in
     let if1° = c .if1 in
-    ((refl, refl, refl), λ s R. (turned-absent (sym (has° .ensures) ∙ not-true _ (if1° .taken)), tables-same (R .tables)))
+    (refl, λ s R. (turned-absent (sym (has° .ensures) ∙ not-true _ (if1° .taken)), tables-same (R .tables)))
 
 free-requires : tie.Need-free-requires
 free-requires c κs = search needs
@@ -26,11 +26,11 @@ has-requires-2 c κs = search needs
 
 returns-2 : tie.Need-returns-2
 returns-2 c =
-    let pre° = c .before .before .before .before .before .before .before .before .before .before .pre in
+    let pre° = c .before .before .before .before .before .before .before .before .pre in
     let free° = c .before .before .free in
     let has2° = c .before .has2 in
     let if2° = c .if2 in
-    ((refl, refl, refl), λ s R. (turned-idle R (pre° .0 .0) (pre° .0 .1) (pre° .0 .2) (free° .ensures) (sym (has2° .ensures) ∙ not-true _ (if2° .taken)), tables-same (R .tables)))
+    (refl, λ s R. (turned-idle R (pre° .0 .0) (pre° .0 .1) (pre° .0 .2) (free° .ensures) (sym (has2° .ensures) ∙ not-true _ (if2° .taken)), tables-same (R .tables)))
 
 free-requires-2 : tie.Need-free-requires-2
 free-requires-2 c κs = search needs
@@ -43,79 +43,59 @@ sub-solve c = search needs
 
 solve-requires : tie.Need-solve-requires
 solve-requires c κs =
-    let pre° = c .before .before .before .before .before .before .before .before .before .before .before .before .before .before .before .before .before .before .pre in
-    let free° = c .before .before .before .before .before .before .before .before .before .before .free in
-    let free2° = c .before .before .before .before .before .before .free2 in
-    let without° = c .before .before .before .before .before .without in
-    (pre° .1 .0, less-asking (pre° .1 .1) (pre° .0 .0) (pre° .0 .1) (pre° .0 .2) (free° .ensures) (free2° .ensures) (without° .ensures) (pre° .0 .3) (pre° .0 .4))
+    let pre° = c .before .before .before .before .before .before .before .before .before .before .before .before .before .before .pre in
+    let free° = c .before .before .before .before .before .before .before .before .free in
+    let free2° = c .before .before .before .before .free2 in
+    let without° = c .before .before .before .without in
+    (pre° .1 .0, less-asking (pre° .1 .1) (pre° .0 .0) (pre° .0 .1) (pre° .0 .2) (free° .ensures) (free2° .ensures) (without° .ensures))
 
 same-length : tie.Need-same-length
 same-length c =
-    let solve° = c .before .before .before .before .before .before .before .before .before .before .before .before .solve in
-    ap length (solve° .ensures .1 .1 .0)
+    let solve° = c .before .before .before .before .before .before .before .before .solve in
+    ap length (solve° .ensures .1 .1)
 
 same-length-2 : tie.Need-same-length-2
 same-length-2 c =
-    let solve° = c .before .before .before .before .before .before .before .before .before .before .before .before .solve in
-    ap length (solve° .ensures .1 .1 .1)
+    let solve° = c .before .before .before .before .before .before .before .before .solve in
+    solve° .ensures .1 .0 .under .same
 
 same-length-3 : tie.Need-same-length-3
 same-length-3 c =
-    let solve° = c .before .before .before .before .before .before .before .before .before .before .before .before .solve in
-    solve° .ensures .1 .1 .2
-
-same-length-4 : tie.Need-same-length-4
-same-length-4 c =
-    let solve° = c .before .before .before .before .before .before .before .before .before .before .before .before .solve in
-    solve° .ensures .1 .0 .under .same
-
-same-length-5 : tie.Need-same-length-5
-same-length-5 c =
-    let solve° = c .before .before .before .before .before .before .before .before .before .before .before .before .solve in
+    let solve° = c .before .before .before .before .before .before .before .before .solve in
     solve° .ensures .1 .0 .over .same
 
 returns-3 : tie.Need-returns-3
 returns-3 c =
-    let solve° = c .before .before .before .before .before .before .before .before .before .before .before .before .solve in
-    let pre° = c .before .before .before .before .before .before .before .before .before .before .before .before .before .before .before .before .before .before .before .before .before .before .before .before .before .before .before .before .before .before .before .pre in
-    let free° = c .before .before .before .before .before .before .before .before .before .before .before .before .before .before .before .before .before .before .before .before .before .before .before .free in
-    let free2° = c .before .before .before .before .before .before .before .before .before .before .before .before .before .before .before .before .before .before .before .free2 in
-    let without° = c .before .before .before .before .before .before .before .before .before .before .before .before .before .before .before .before .before .before .without in
+    let solve° = c .before .before .before .before .before .before .before .before .solve in
+    let pre° = c .before .before .before .before .before .before .before .before .before .before .before .before .before .before .before .before .before .before .before .before .before .before .before .pre in
+    let free° = c .before .before .before .before .before .before .before .before .before .before .before .before .before .before .before .before .before .free in
+    let free2° = c .before .before .before .before .before .before .before .before .before .before .before .before .before .free2 in
+    let without° = c .before .before .before .before .before .before .before .before .before .before .before .before .without in
     let if3° = c .if3 in
     (solve° .ensures .1 .1, λ s R. (turned-kept R (pre° .0 .0) (pre° .0 .1) (pre° .0 .2) (free° .ensures) (free2° .ensures) (without° .ensures) (rw (if3° .taken) at (solve° .ensures .0)), ready-grown R (solve° .ensures .1 .0)))
 
-same-length-6 : tie.Need-same-length-6
-same-length-6 c =
-    let solve° = c .before .before .before .before .before .before .before .before .before .before .before .before .solve in
-    ap length (solve° .ensures .1 .1 .0)
+same-length-4 : tie.Need-same-length-4
+same-length-4 c =
+    let solve° = c .before .before .before .before .before .before .before .before .solve in
+    ap length (solve° .ensures .1 .1)
 
-same-length-7 : tie.Need-same-length-7
-same-length-7 c =
-    let solve° = c .before .before .before .before .before .before .before .before .before .before .before .before .solve in
-    ap length (solve° .ensures .1 .1 .1)
-
-same-length-8 : tie.Need-same-length-8
-same-length-8 c =
-    let solve° = c .before .before .before .before .before .before .before .before .before .before .before .before .solve in
-    solve° .ensures .1 .1 .2
-
-same-length-9 : tie.Need-same-length-9
-same-length-9 c =
-    let solve° = c .before .before .before .before .before .before .before .before .before .before .before .before .solve in
+same-length-5 : tie.Need-same-length-5
+same-length-5 c =
+    let solve° = c .before .before .before .before .before .before .before .before .solve in
     solve° .ensures .1 .0 .under .same
 
-same-length-10 : tie.Need-same-length-10
-same-length-10 c =
-    let solve° = c .before .before .before .before .before .before .before .before .before .before .before .before .solve in
+same-length-6 : tie.Need-same-length-6
+same-length-6 c =
+    let solve° = c .before .before .before .before .before .before .before .before .solve in
     solve° .ensures .1 .0 .over .same
 
 returns-4 : tie.Need-returns-4
 returns-4 c =
-    let solve° = c .before .before .before .before .before .before .before .before .before .before .before .before .solve in
-    let pre° = c .before .before .before .before .before .before .before .before .before .before .before .before .before .before .before .before .before .before .before .before .before .before .before .before .before .before .before .before .before .before .before .pre in
-    let free° = c .before .before .before .before .before .before .before .before .before .before .before .before .before .before .before .before .before .before .before .before .before .before .before .free in
-    let free2° = c .before .before .before .before .before .before .before .before .before .before .before .before .before .before .before .before .before .before .before .free2 in
-    let without° = c .before .before .before .before .before .before .before .before .before .before .before .before .before .before .before .before .before .before .without in
+    let solve° = c .before .before .before .before .before .before .before .before .solve in
+    let pre° = c .before .before .before .before .before .before .before .before .before .before .before .before .before .before .before .before .before .before .before .before .before .before .before .pre in
+    let free° = c .before .before .before .before .before .before .before .before .before .before .before .before .before .before .before .before .before .free in
+    let free2° = c .before .before .before .before .before .before .before .before .before .before .before .before .before .free2 in
+    let without° = c .before .before .before .before .before .before .before .before .before .before .before .before .without in
     let if3° = c .if3 in
     (solve° .ensures .1 .1, λ s R. (turned-dropped R (pre° .0 .0) (pre° .0 .1) (pre° .0 .2) (free° .ensures) (free2° .ensures) (without° .ensures) (rw (if3° .left) at (solve° .ensures .0)), ready-grown R (solve° .ensures .1 .0)))
 
@@ -135,12 +115,8 @@ dropped-spec =
     same-length
     same-length-2
     same-length-3
+    returns-3
     same-length-4
     same-length-5
-    returns-3
     same-length-6
-    same-length-7
-    same-length-8
-    same-length-9
-    same-length-10
     returns-4)

@@ -8,34 +8,32 @@ use Rattle.solver.proofs.reason.reduced.Statement.{statement}
 use Rattle.solver.proofs.reason.reduced.Tie as tie
 
 abbrev Inv-loop : tie.InvT-loop
-Inv-loop net₀ v reason cells₀ wants₀ under₀ over₀ left₀ x₀ net cells wants under over left x = Turning net₀ v (left₀ .cube .mask) (left₀ .cube .values) reason under₀ (left₀ .kept .under) over₀ (left₀ .kept .over) x (left .cube .mask) (left .cube .values) (left .reason) net cells wants under (left .kept .under) over (left .kept .over)
+Inv-loop net₀ v reason under₀ over₀ left₀ x₀ net under over left x = Turning net₀ v (left₀ .cube .mask) (left₀ .cube .values) reason under₀ (left₀ .kept .under) over₀ (left₀ .kept .over) x (left .cube .mask) (left .cube .values) (left .reason) net under (left .kept .under) over (left .kept .over)
 
 abbrev μ-loop : tie.MeasureT-loop
-μ-loop net₀ v reason cells₀ wants₀ under₀ over₀ left₀ x₀ net cells wants under over left x = x
+μ-loop net₀ v reason under₀ over₀ left₀ x₀ net under over left x = x
 
 loop-holds : tie.Need-loop-holds Inv-loop μ-loop
-loop-holds c =
-    let pre° = c .before .before .before .before .before .pre in
-    turning-start (pre° .0 .2) (pre° .0 .3)
+loop-holds c = turning-start
 
 sub-x : tie.Need-sub-x Inv-loop μ-loop
 sub-x c = search needs
 
 dropped-requires : tie.Need-dropped-requires Inv-loop μ-loop
 dropped-requires c κs =
-    let pre° = c .before .before .before .before .before .before .before .before .before .before .before .before .before .before .pre in
-    let loop° = c .before .before .before .before .before .before .before .before .loop in
-    ((pre° .0 .0, pre° .0 .1, omega (arith, loop° .inv .low), loop° .inv .cells-are, loop° .inv .long), (pre° .1 .0, rw (loop° .inv .same) (loop° .inv .each (pre° .1 .0) (pre° .1 .1) (pre° .1 .2) .ready)))
+    let pre° = c .before .before .before .before .before .before .before .before .before .before .pre in
+    let loop° = c .before .before .before .before .before .before .loop in
+    ((pre° .0 .0, pre° .0 .1, omega (arith, loop° .inv .low)), (pre° .1 .0, rw (loop° .inv .same) (loop° .inv .each (pre° .1 .0) (pre° .1 .1) (pre° .1 .2) .ready)))
 
 loop-less : tie.Need-loop-less Inv-loop μ-loop
 loop-less c = search needs
 
 loop-again : tie.Need-loop-again Inv-loop μ-loop
 loop-again c =
-    let loop° = c .before .before .before .before .before .before .before .before .before .before .before .before .before .before .before .before .before .before .before .loop in
-    let loop-test° = c .before .before .before .before .before .before .before .before .before .before .before .before .before .before .before .before .before .before .loop-test in
-    let dropped° = c .before .before .before .before .before .before .before .before .before .before .dropped in
-    turning-next (loop° .inv) (loop-test° .taken) (dropped° .ensures .0 .0) (dropped° .ensures .0 .1) (dropped° .ensures .0 .2) (dropped° .ensures .1)
+    let loop° = c .before .before .before .before .before .before .before .before .before .before .before .before .before .loop in
+    let loop-test° = c .before .before .before .before .before .before .before .before .before .before .before .before .loop-test in
+    let dropped° = c .before .before .before .before .before .before .dropped in
+    turning-next (loop° .inv) (loop-test° .taken) (dropped° .ensures .0) (dropped° .ensures .1)
 
 same-length : tie.Need-same-length Inv-loop μ-loop
 same-length c =
@@ -45,25 +43,13 @@ same-length c =
 same-length-2 : tie.Need-same-length-2 Inv-loop μ-loop
 same-length-2 c =
     let loop° = c .before .loop in
-    let pre° = c .before .before .before .before .before .before .before .pre in
-    ap length (loop° .inv .cells-are ∙ sym (pre° .0 .2))
+    let pre° = c .before .before .before .before .before .pre in
+    loop° .inv .each (pre° .1 .0) (pre° .1 .1) (pre° .1 .2) .kept .under .same
 
 same-length-3 : tie.Need-same-length-3 Inv-loop μ-loop
 same-length-3 c =
     let loop° = c .before .loop in
-    let pre° = c .before .before .before .before .before .before .before .pre in
-    loop° .inv .long ∙ sym (pre° .0 .3)
-
-same-length-4 : tie.Need-same-length-4 Inv-loop μ-loop
-same-length-4 c =
-    let loop° = c .before .loop in
-    let pre° = c .before .before .before .before .before .before .before .pre in
-    loop° .inv .each (pre° .1 .0) (pre° .1 .1) (pre° .1 .2) .kept .under .same
-
-same-length-5 : tie.Need-same-length-5 Inv-loop μ-loop
-same-length-5 c =
-    let loop° = c .before .loop in
-    let pre° = c .before .before .before .before .before .before .before .pre in
+    let pre° = c .before .before .before .before .before .pre in
     loop° .inv .each (pre° .1 .0) (pre° .1 .1) (pre° .1 .2) .kept .over .same
 
 returns : tie.Need-returns Inv-loop μ-loop
@@ -85,6 +71,4 @@ reduced-spec =
     same-length
     same-length-2
     same-length-3
-    same-length-4
-    same-length-5
     returns)

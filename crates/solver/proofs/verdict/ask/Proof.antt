@@ -1,6 +1,6 @@
 -- `solver::verdict::ask` meets its contract: the search of the last frame over the free variables that are not entered. Assumes nothing.
 use native.Mathlib.Omega.{arith}
-use mathlib.Core.Path.{refl, _∙_, ap}
+use mathlib.Core.Path.{_∙_, ap}
 use lib.ListN.{length}
 use borrow.Author.Needs.{needs}
 use Rattle.solver.specs.Ask.{entered-asking, answered-yes, answered-no}
@@ -22,24 +22,18 @@ without-requires c κs = search needs
 of-requires : tie.Need-of-requires
 of-requires c κs = search needs
 
-slice-aggregate-solve : tie.Need-slice-aggregate-solve
-slice-aggregate-solve c = search needs
-
-slice-aggregate-solve-2 : tie.Need-slice-aggregate-solve-2
-slice-aggregate-solve-2 c = search needs
-
 solve-requires : tie.Need-solve-requires
 solve-requires c κs =
-    let pre° = c .before .before .before .before .before .before .before .before .before .before .before .before .before .before .pre in
-    let free° = c .before .before .before .before .before .before .before .before .before .free in
-    let without° = c .before .before .before .before .before .without in
-    let of° = c .before .before .before .before .of in
-    (pre° .0, entered-asking (pre° .1) 2 (omega arith) (omega arith) (free° .ensures) (without° .ensures) (of° .ensures) refl refl)
+    let pre° = c .before .before .before .before .before .before .before .before .before .before .before .before .pre in
+    let free° = c .before .before .before .before .before .before .before .free in
+    let without° = c .before .before .before .without in
+    let of° = c .before .before .of in
+    (pre° .0, entered-asking (pre° .1) 2 (omega arith) (omega arith) (free° .ensures) (without° .ensures) (of° .ensures))
 
 cast-ensure : tie.Need-cast-ensure
 cast-ensure c =
-    let frames° = c .before .before .before .before .before .before .before .before .before .before .before .before .before .before .before .before .before .before .before .frames in
-    let pre° = c .before .before .before .before .before .before .before .before .before .before .before .before .before .before .before .before .before .before .before .before .before .before .before .before .before .before .pre in
+    let frames° = c .before .before .before .before .before .before .before .before .before .before .before .before .before .before .before .frames in
+    let pre° = c .before .before .before .before .before .before .before .before .before .before .before .before .before .before .before .before .before .before .before .before .before .before .pre in
     omega (arith, frames° .ensures, pre° .1 .net-of .ground .room, pre° .1 .net-of .ground .few)
 
 low-requires : tie.Need-low-requires
@@ -56,40 +50,40 @@ ensure-requires c κs = search needs
 
 same-length : tie.Need-same-length
 same-length c =
-    let solve° = c .before .before .before .before .before .before .before .before .before .before .before .before .before .before .before .before .before .solve in
-    ap length (solve° .ensures .1 .1 .0)
+    let solve° = c .before .before .before .before .before .before .before .before .before .before .before .before .before .before .before .solve in
+    ap length (solve° .ensures .1 .1)
 
 same-length-2 : tie.Need-same-length-2
 same-length-2 c =
     let ensure° = c .before .before .ensure in
-    let solve° = c .before .before .before .before .before .before .before .before .before .before .before .before .before .before .before .before .before .solve in
+    let solve° = c .before .before .before .before .before .before .before .before .before .before .before .before .before .before .before .solve in
     ensure° .ensures .grown .same ∙ solve° .ensures .1 .0 .under .same
 
 same-length-3 : tie.Need-same-length-3
 same-length-3 c =
-    let solve° = c .before .before .before .before .before .before .before .before .before .before .before .before .before .before .before .before .before .solve in
+    let solve° = c .before .before .before .before .before .before .before .before .before .before .before .before .before .before .before .solve in
     solve° .ensures .1 .0 .over .same
 
 returns : tie.Need-returns
 returns c =
-    let solve° = c .before .before .before .before .before .before .before .before .before .before .before .before .before .before .before .before .before .solve in
-    let free° = c .before .before .before .before .before .before .before .before .before .before .before .before .before .before .before .before .before .before .before .before .before .before .before .before .before .before .before .free in
-    let without° = c .before .before .before .before .before .before .before .before .before .before .before .before .before .before .before .before .before .before .before .before .before .before .before .without in
-    let of° = c .before .before .before .before .before .before .before .before .before .before .before .before .before .before .before .before .before .before .before .before .before .before .of in
-    let frames° = c .before .before .before .before .before .before .before .before .before .before .before .before .before .before .before .before .before .before .before .before .before .before .before .before .before .frames in
+    let solve° = c .before .before .before .before .before .before .before .before .before .before .before .before .before .before .before .solve in
+    let free° = c .before .before .before .before .before .before .before .before .before .before .before .before .before .before .before .before .before .before .before .before .before .before .before .free in
+    let without° = c .before .before .before .before .before .before .before .before .before .before .before .before .before .before .before .before .before .before .before .without in
+    let of° = c .before .before .before .before .before .before .before .before .before .before .before .before .before .before .before .before .before .before .of in
+    let frames° = c .before .before .before .before .before .before .before .before .before .before .before .before .before .before .before .before .before .before .before .before .before .frames in
     let if1° = c .before .before .before .before .before .before .before .if1 in
     let low° = c .before .before .before .before .before .low in
     let low2° = c .before .before .before .before .low2 in
     let low3° = c .before .before .before .low3 in
     let ensure° = c .before .before .ensure in (
-      solve° .ensures .1 .1 .0,
+      solve° .ensures .1 .1,
       λ s R. answered-yes R (free° .ensures) (without° .ensures) (of° .ensures) (frames° .ensures) (solve° .ensures .1 .0) (rw (if1° .taken) at (solve° .ensures .0)) (low° .ensures) (low2° .ensures) (low3° .ensures) (ensure° .ensures),
     )
 
 cast-ensure-2 : tie.Need-cast-ensure-2
 cast-ensure-2 c =
-    let frames° = c .before .before .before .before .before .before .before .before .before .before .before .before .before .before .before .before .before .before .before .frames in
-    let pre° = c .before .before .before .before .before .before .before .before .before .before .before .before .before .before .before .before .before .before .before .before .before .before .before .before .before .before .pre in
+    let frames° = c .before .before .before .before .before .before .before .before .before .before .before .before .before .before .before .frames in
+    let pre° = c .before .before .before .before .before .before .before .before .before .before .before .before .before .before .before .before .before .before .before .before .before .before .pre in
     omega (arith, frames° .ensures, pre° .1 .net-of .ground .room, pre° .1 .net-of .ground .few)
 
 low-requires-4 : tie.Need-low-requires-4
@@ -106,33 +100,33 @@ ensure-requires-2 c κs = search needs
 
 same-length-4 : tie.Need-same-length-4
 same-length-4 c =
-    let solve° = c .before .before .before .before .before .before .before .before .before .before .before .before .before .before .before .before .before .solve in
-    ap length (solve° .ensures .1 .1 .0)
+    let solve° = c .before .before .before .before .before .before .before .before .before .before .before .before .before .before .before .solve in
+    ap length (solve° .ensures .1 .1)
 
 same-length-5 : tie.Need-same-length-5
 same-length-5 c =
-    let solve° = c .before .before .before .before .before .before .before .before .before .before .before .before .before .before .before .before .before .solve in
+    let solve° = c .before .before .before .before .before .before .before .before .before .before .before .before .before .before .before .solve in
     solve° .ensures .1 .0 .under .same
 
 same-length-6 : tie.Need-same-length-6
 same-length-6 c =
     let ensure2° = c .before .before .ensure2 in
-    let solve° = c .before .before .before .before .before .before .before .before .before .before .before .before .before .before .before .before .before .solve in
+    let solve° = c .before .before .before .before .before .before .before .before .before .before .before .before .before .before .before .solve in
     ensure2° .ensures .grown .same ∙ solve° .ensures .1 .0 .over .same
 
 returns-2 : tie.Need-returns-2
 returns-2 c =
-    let solve° = c .before .before .before .before .before .before .before .before .before .before .before .before .before .before .before .before .before .solve in
-    let free° = c .before .before .before .before .before .before .before .before .before .before .before .before .before .before .before .before .before .before .before .before .before .before .before .before .before .before .before .free in
-    let without° = c .before .before .before .before .before .before .before .before .before .before .before .before .before .before .before .before .before .before .before .before .before .before .before .without in
-    let of° = c .before .before .before .before .before .before .before .before .before .before .before .before .before .before .before .before .before .before .before .before .before .before .of in
-    let frames° = c .before .before .before .before .before .before .before .before .before .before .before .before .before .before .before .before .before .before .before .before .before .before .before .before .before .frames in
+    let solve° = c .before .before .before .before .before .before .before .before .before .before .before .before .before .before .before .solve in
+    let free° = c .before .before .before .before .before .before .before .before .before .before .before .before .before .before .before .before .before .before .before .before .before .before .before .free in
+    let without° = c .before .before .before .before .before .before .before .before .before .before .before .before .before .before .before .before .before .before .before .without in
+    let of° = c .before .before .before .before .before .before .before .before .before .before .before .before .before .before .before .before .before .before .of in
+    let frames° = c .before .before .before .before .before .before .before .before .before .before .before .before .before .before .before .before .before .before .before .before .before .frames in
     let if1° = c .before .before .before .before .before .before .before .if1 in
     let low4° = c .before .before .before .before .before .low4 in
     let low5° = c .before .before .before .before .low5 in
     let low6° = c .before .before .before .low6 in
     let ensure2° = c .before .before .ensure2 in (
-      solve° .ensures .1 .1 .0,
+      solve° .ensures .1 .1,
       λ s R. answered-no R (free° .ensures) (without° .ensures) (of° .ensures) (frames° .ensures) (solve° .ensures .1 .0) (rw (if1° .left) at (solve° .ensures .0)) (low4° .ensures) (low5° .ensures) (low6° .ensures) (ensure2° .ensures),
     )
 
@@ -145,8 +139,6 @@ ask-spec =
     sub-last
     without-requires
     of-requires
-    slice-aggregate-solve
-    slice-aggregate-solve-2
     solve-requires
     cast-ensure
     low-requires
