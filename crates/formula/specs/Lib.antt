@@ -8,3 +8,4 @@ pub mod ReasonWord
 pub mod Why
 pub mod Compute
 pub mod Example
+pub mod Widths

@@ -7,9 +7,10 @@ use mathlib.Core.Path.{_≡_, refl, sym, ap, subst, _∙_}
 use lib.ListN.{length, take, drop}
 use lib.Seq.{take-at}
 use Rattle.words.specs.Bytes.{bytesOf}
+use Rattle.form.specs.Form.{frameBytes, answerBytes}
+use Rattle.form.specs.declared.Form.the-variants.{Narrow}
 use Rattle.text.specs.Hex.{hexLines}
-use Rattle.text.specs.Line.{frameBytes}
-use Rattle.text.specs.Answer.{answerSize, answerLineSize, answerLine, answerLines, Wrote, WroteFrames, withRoom}
+use Rattle.text.specs.Answer.{answerLine, answerLines, Wrote, WroteFrames, withRoom}
 use Rattle.text.specs.AnswerLaws.{one-answer, answer-length}
 use Rattle.text.specs.LineStores.{lines-length}
 use Rattle.prenex.specs.Question.{Question, Contingent}
@@ -22,7 +23,7 @@ use Rattle.from_qdimacs.specs.Converted.{Converted, malformed, large, se
 
 -- ---- a refusal
 
-read-refused : {text sheet sheet′ : List ℕ} {n l : ℕ} → sheetRoom ≤ length sheet → (n ≡ 0 → ⊥) → Read text sheet n l sheet′ → Converted text (answerLine n 0 0)
+read-refused : {text sheet sheet′ : List ℕ} {n l : ℕ} → sheetRoom ≤ length sheet → (n ≡ 0 → ⊥) → Read text sheet n l sheet′ → Converted text (answerLine Narrow n 0 0)
 read-refused room h (short s) = absurd (omega arith)
 read-refused room h (Reading.malformed r w) = malformed w
 read-refused room h (Reading.large r w b) = large w b
@@ -72,20 +73,20 @@ begins x out {r = r} c b k f same =
     record { lines = x; is-converted = c; count = k; bytes = front; fits = omega (arith, same, f); counted = k ∙ sym (ap length front) }
 
 pub refusal-printed : {text sheet sheet′ : List ℕ} (out : List ℕ) {out′ : List ℕ} {n l r : ℕ} → 1800 ≤ length out → length out′ ≡ length out → sheetRoom ≤ length sheet → (n ≡ 0 → ⊥)
-    → Read text sheet n l sheet′ → Wrote (n ∷ 0 ∷ 0 ∷ 0 ∷ 0 ∷ 0 ∷ []) out r out′ → Prints text out′ r
+    → Read text sheet n l sheet′ → Wrote Narrow (n ∷ 0 ∷ 0 ∷ 0 ∷ 0 ∷ 0 ∷ []) out r out′ → Prints text out′ r
 unfolding bytesOf
 refusal-printed out {n = n} room same s h d w =
-    let one : withRoom answerSize answerLineSize (n ∷ 0 ∷ 0 ∷ 0 ∷ 0 ∷ 0 ∷ []) out ≡ 1 = min-eq-left (omega arith) in
-    let line : answerLines 1 (n ∷ 0 ∷ 0 ∷ 0 ∷ 0 ∷ 0 ∷ []) ≡ answerLine n 0 0 = one-answer n 0 0 in
-    begins (answerLine n 0 0) out (read-refused s h d) (w .bytes ∙ rw (one, line)) (w .count ∙ rw (one, answer-length n 0 0)) (w .fits) same
+    let one : withRoom (answerBytes Narrow) (n ∷ 0 ∷ 0 ∷ 0 ∷ 0 ∷ 0 ∷ []) out ≡ 1 = min-eq-left (omega arith) in
+    let line : answerLines Narrow 1 (n ∷ 0 ∷ 0 ∷ 0 ∷ 0 ∷ 0 ∷ []) ≡ answerLine Narrow n 0 0 = one-answer Narrow n 0 0 in
+    begins (answerLine Narrow n 0 0) out (read-refused s h d) (w .bytes ∙ rw (one, line)) (w .count ∙ rw (one, answer-length Narrow n 0 0)) (w .fits) same
 
-pub sheet-printed : {text sheet′ : List ℕ} (out : List ℕ) {out′ : List ℕ} {l r : ℕ} → 1800 ≤ length out → length out′ ≡ length out → (d : Sheet text sheet′ l) → WroteFrames (take l sheet′) out r out′ → Prints text out′ r
+pub sheet-printed : {text sheet′ : List ℕ} (out : List ℕ) {out′ : List ℕ} {l r : ℕ} → 1800 ≤ length out → length out′ ≡ length out → (d : Sheet text sheet′ l) → WroteFrames Narrow (take l sheet′) out r out′ → Prints text out′ r
 unfolding sheetOf
 sheet-printed out {out′} {l} {r} room same d w =
     let q = d .question in
     let many = sheet-length (kinds q) in
-    let all : withRoom 4 9 (sheetOf q) out ≡ length (kinds q) = min-eq-left (omega (arith, many, d .small .few-frames)) ∙ omega (arith, many) in
-    let v : WroteFrames (sheetOf q) out r out′ = rw (d .taken) at w in
+    let all : withRoom (frameBytes Narrow) (sheetOf q) out ≡ length (kinds q) = min-eq-left (omega (arith, many, d .small .few-frames)) ∙ omega (arith, many) in
+    let v : WroteFrames Narrow (sheetOf q) out r out′ = rw (d .taken) at w in
     let count = lines-length 4 (length (kinds q)) (sheetOf q) (omega (arith, many)) in
-    begins (hexLines frameBytes (length (kinds q)) (sheetOf q)) out (converted (d .written) (d .small) (d .contingent)) (v .bytes ∙ rw all)
+    begins (hexLines (frameBytes Narrow) (length (kinds q)) (sheetOf q)) out (converted (d .written) (d .small) (d .contingent)) (v .bytes ∙ rw all)
     (v .count ∙ rw all (omega (arith, count))) (v .fits) same

@@ -17,7 +17,7 @@ fn convert(text: &[u8], out: &mut [u8]) -> usize
     requires { ⌜ 1800 ≤ length (now out) ⌝ }
     ensures { λ r. ⌜ Prints (now (text .entry)) (now (out .exit)) r ⌝ }
 {
-    let mut sheet = [0u8; text::SHEET_BYTES];
+    let mut sheet = [0u8; prenex::SHEET_BYTES];
     let parsed = qdimacs::read(text, &mut sheet);
     if parsed.refusal != 0 {
         let answer = [parsed.refusal, 0, 0, 0, 0, 0];

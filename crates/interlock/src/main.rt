@@ -7,14 +7,14 @@ use libc::STDIN_FILENO;
 use libc::STDOUT_FILENO;
 
 // The most that is read.
-const TEXT_BYTES: usize = 16384;
+const TEXT_BYTES: usize = 65536;
 
-// A thousand lines of thirteen bytes.
-const OUTPUT_BYTES: usize = 13000;
+// A thousand lines of twenty-one bytes, as of a wide sheet.
+const OUTPUT_BYTES: usize = 21000;
 
 // All of what is printed for a text, from the buffer's start.
 fn respond_whole(text: &[u8], output: &mut [u8]) -> usize
-    requires { ⌜ 13000 ≤ length (now output) ⌝ }
+    requires { ⌜ 21000 ≤ length (now output) ⌝ }
     ensures { λ r. ⌜ Starts (printed (now (text .entry))) (now (output .exit)) r ⌝ }
 {
     response::respond(text, output)

@@ -9,7 +9,7 @@ use Rattle.formula.specs.ReasonWord.{within-range}
 use Rattle.sheet.specs.declared.Kind.{Kind}
 use Rattle.sheet.specs.declared.Kind.the-variants.{Never, Input, Not, And, Or, Exists, Forall}
 use Rattle.sheet.specs.Frames.{formulaOf, formula-is}
-use Rattle.sheet.specs.Frames as Sheet
+use Rattle.sheet.specs.Frames as Sheets
 use Rattle.net.specs.Over.{Beside, over, over-free, over-same, over-range}
 use Rattle.net.specs.Net.{Node, Fixed, Reads, Flips, Joins, Binds, Net, build, meaning, value, frees, Fit, Ordered, meaning-is, upward}
 
@@ -25,11 +25,11 @@ nodeOfKind (Forall a b c) = Binds false (rangeMask b c) a
 unfoldable pub decoded : (ℕ → Kind) → Net
 decoded κ k = nodeOfKind (κ k)
 
-pub decoded-ordered : (w : ℕ) (κ : ℕ → Kind) → Sheet.Ordered w κ → Ordered (decoded κ)
+pub decoded-ordered : (w : ℕ) (κ : ℕ → Kind) → Sheets.Ordered w κ → Ordered (decoded κ)
 unfolding decoded nodeOfKind
 decoded-ordered w κ o = record { fit = λ k. go k (κ k) (o .fit k) }
   where
-    go : (k : ℕ) (d : Kind) → Sheet.Fit w k d → Fit k (nodeOfKind d)
+    go : (k : ℕ) (d : Kind) → Sheets.Fit w k d → Fit k (nodeOfKind d)
     go k Never h = tt
     go k (Input x) h = tt
     go k (Not a) h = h
@@ -43,10 +43,10 @@ over-range-same : (d : Bool) (b c : ℕ) (f g : Formula) → ((σ : Assignment) 
 unfolding truth
 over-range-same d b c f g e σ = over-range d b c f σ ∙ ap (λ (p : Assignment → Bool). sweep d b c p σ) (fun-ext e)
 
-module _ (w : ℕ) (κ : ℕ → Kind) (o : Sheet.Ordered w κ) where
+module _ (w : ℕ) (κ : ℕ → Kind) (o : Sheets.Ordered w κ) where
   -- every frame has the truth of its formula
   pub decoded-value : (k : ℕ) (σ : Assignment) → value (decoded κ) k σ ≡ truth (formulaOf κ k) σ
-  unfolding decoded nodeOfKind build Sheet.build truth
+  unfolding decoded nodeOfKind build Sheets.build truth
   decoded-value =
       upward (λ k. (σ : Assignment) → value (decoded κ) k σ ≡ truth (formulaOf κ k) σ)
       (λ k h σ. ap (λ (f : Formula). truth f σ) (meaning-is (decoded κ) (decoded-ordered w κ o) k)
@@ -54,7 +54,7 @@ module _ (w : ℕ) (κ : ℕ → Kind) (o : Sheet.Ordered w κ) where
       ∙ sym (ap (λ (f : Formula). truth f σ) (formula-is w κ o k)))
     where
       go : (k : ℕ) → ((j : ℕ) → j < k → (τ : Assignment) → value (decoded κ) j τ ≡ truth (formulaOf κ j) τ) → (σ : Assignment)
-          (d : Kind) → Sheet.Fit w k d → truth (build (meaning (decoded κ)) (nodeOfKind d)) σ ≡ truth (Sheet.build (formulaOf κ) d) σ
+          (d : Kind) → Sheets.Fit w k d → truth (build (meaning (decoded κ)) (nodeOfKind d)) σ ≡ truth (Sheets.build (formulaOf κ) d) σ
       go k h σ Never f = refl
       go k h σ (Input x) f = refl
       go k h σ (Not a) f = ap not (h a f σ)
@@ -65,7 +65,7 @@ module _ (w : ℕ) (κ : ℕ → Kind) (o : Sheet.Ordered w κ) where
 
   -- and its free variables
   pub decoded-free : (k x : ℕ) → frees (decoded κ) k x ≡ free (formulaOf κ k) x
-  unfolding decoded nodeOfKind build Sheet.build free
+  unfolding decoded nodeOfKind build Sheets.build free
   decoded-free =
       upward (λ k. (x : ℕ) → frees (decoded κ) k x ≡ free (formulaOf κ k) x)
       (λ k h x. ap (λ (f : Formula). free f x) (meaning-is (decoded κ) (decoded-ordered w κ o) k)
@@ -73,7 +73,7 @@ module _ (w : ℕ) (κ : ℕ → Kind) (o : Sheet.Ordered w κ) where
       ∙ sym (ap (λ (f : Formula). free f x) (formula-is w κ o k)))
     where
       go : (k : ℕ) → ((j : ℕ) → j < k → (x : ℕ) → frees (decoded κ) j x ≡ free (formulaOf κ j) x) → (x : ℕ)
-          (d : Kind) → Sheet.Fit w k d → free (build (meaning (decoded κ)) (nodeOfKind d)) x ≡ free (Sheet.build (formulaOf κ) d) x
+          (d : Kind) → Sheets.Fit w k d → free (build (meaning (decoded κ)) (nodeOfKind d)) x ≡ free (Sheets.build (formulaOf κ) d) x
       go k h x Never f = refl
       go k h x (Input y) f = refl
       go k h x (Not a) f = h a f x

@@ -11,9 +11,12 @@ use borrow.Author.Tests.{eq-eqb, ne-eqb}
 use Rattle.words.specs.Logic.{by-bool, tests}
 use Rattle.formula.specs.Formula.{Formula, never, input, neg, gate}
 use Rattle.formula.specs.Ask.{Bounded}
-use Rattle.sheet.specs.Rules.{variables}
+use Rattle.form.specs.Form.{formOf, few-variables}
+use Rattle.form.specs.Form as Sizes
+use Rattle.form.specs.declared.Form.{Form}
+use Rattle.form.specs.declared.Form.the-variants.{Narrow, Wide}
 use Rattle.net.specs.Over.{over}
-use Rattle.net.specs.Net.{Node, Fixed, Reads, Flips, Joins, Binds, Net, nodeOf, node-fixed, node-reads, node-flips, node-joins, node-binds, build, meaning, Fit, Ordered, fit-at, at-node, at-reads, at-flips, at-joins, at-binds, Ranged, Clear, Distinct, bounded-net}
+use Rattle.net.specs.Net.{Node, Fixed, Reads, Flips, Joins, Binds, Net, nodeOf, node-fixed, node-reads, node-flips, node-joins, node-binds, build, meaning, Fit, Ordered, fit-at, at-node, at-reads, at-flips, at-joins, at-binds, Ranged, ranged-more, Clear, Distinct, bounded-net}
 
 -- word 0: how many frames the sheet has; they are the first nodes
 abbrev pub framesOf : List ℕ → ℕ
@@ -30,6 +33,23 @@ firstWord k = 66 + 2 * k
 abbrev pub secondWord : ℕ → ℕ
 secondWord k = 67 + 2 * k
 
+-- a net has words for every frame that a sheet of its form may have, and one node more
+abbrev pub netWords : Form → ℕ
+netWords F = firstWord (Sizes.mostFrames F + 1)
+
+-- so the form of its sheet is told by how many words there are
+unfoldable pub netForm : List ℕ → Form
+netForm net = formOf (ltb (netWords Narrow) (length net))
+
+pub form-words : (F : Form) (net : List ℕ) → length net ≡ netWords F → netForm net ≡ F
+unfolding netForm
+form-words Narrow net e = rw e
+form-words Wide net e = rw e
+
+pub form-same : (net net′ : List ℕ) → length net′ ≡ length net → netForm net′ ≡ netForm net
+unfolding netForm
+form-same net net′ e = rw e
+
 -- there are words for node k
 abbrev pub HasNode : List ℕ → ℕ → Type 0
 HasNode net k = 67 + 2 * k < length net
@@ -45,11 +65,11 @@ packed net k = unpack (getD net (firstWord k) 0) (getD net (secondWord k) 0)
 abbrev pub formulaAt : List ℕ → ℕ → Formula
 formulaAt net k = meaning (packed net) k
 
--- a net that can be searched: nodes name earlier ones, variables are those of a sheet, no variable is bound again below, and behind the frames there is
--- room for one node more. Numbers of nodes fit their bits
+-- a net that can be searched: nodes name earlier ones, variables are those of a sheet of its form, no variable is bound again below, and behind the frames
+-- there is room for one node more. Numbers of nodes fit their bits
 pub record Ground (net : List ℕ) : Type 0 where
   pub ordered : Ordered (packed net)
-  pub ranged : (k : ℕ) → Ranged variables (packed net k)
+  pub ranged : (k : ℕ) → Ranged (Sizes.variables (netForm net)) (packed net k)
   pub distinct : Distinct (packed net)
   pub room : HasNode net (framesOf net)
   pub few : length net ≤ 8066
@@ -88,8 +108,19 @@ decides-val : (op : ℕ) → eqb op 6 ≡ val (decides op)
 unfolding decides val
 decides-val op = by-bool (eqb op 6) (λ e. rw e) (λ e. rw e)
 
+-- a word has room for the variables of either form
+abbrev pub variables : ℕ
+variables = 64
+
+pub ground-ranged : {net : List ℕ} → Ground net → (k : ℕ) → Ranged variables (packed net k)
+ground-ranged {net} G k = ranged-more (packed net k) (few-variables (netForm net)) (G .ranged k)
+
 pub ground-bounded : {net : List ℕ} → Ground net → (k : ℕ) → Bounded variables (formulaAt net k)
-ground-bounded {net} G k = bounded-net variables (packed net) (G .ordered) (G .ranged) k
+ground-bounded {net} G k = bounded-net variables (packed net) (G .ordered) (ground-ranged G) k
+
+-- and only those of the net's own form are free
+pub ground-formed : {net : List ℕ} → Ground net → (k : ℕ) → Bounded (Sizes.variables (netForm net)) (formulaAt net k)
+ground-formed {net} G k = bounded-net (Sizes.variables (netForm net)) (packed net) (G .ordered) (G .ranged) k
 
 -- ---- by kind, from the code's tests
 
@@ -140,7 +171,7 @@ module _ {net : List ℕ} {k op left right mask : ℕ} (G : Ground net) (I : Is 
 
   -- the nodes that it names, and the variable
   pub reads-low : op ≡ 2 → left < variables
-  reads-low e = subst (Ranged variables) (is-reads e) (G .ranged k)
+  reads-low e = subst (Ranged variables) (is-reads e) (ground-ranged G k)
 
   pub flips-below : op ≡ 3 → left < k
   flips-below e = fit-at (G .ordered) (is-flips e)

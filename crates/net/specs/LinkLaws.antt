@@ -1,16 +1,16 @@
 -- Other links, the same net: what `Linked` is kept by, and what it keeps. Assumes nothing.
 use Prim.Native.Nat.{ℕ, _/_, _%_, _<_, _≤_}
 use native.Mathlib.Omega.{arith}
-use mathlib.Core.Path.{_≡_, refl, sym, _∙_, ap, ap₂, subst, fun-ext}
+use mathlib.Core.Path.{_≡_, refl, _∙_, ap, ap₂, fun-ext}
 use mathlib.Core.List.{List}
 use lib.ListN.{length, getD, set, length-set}
 use lib.Seq.{getD-set-same, getD-set-other}
 use lib.Dec.{eqb}
 use borrow.Author.Tests.{eqb-true}
 use Rattle.words.specs.Logic.{by-bool, tests}
-use Rattle.sheet.specs.Rules.{variables}
-use Rattle.net.specs.Net.{Net, Ranged, meaning}
-use Rattle.net.specs.Layout.{framesOf, firstWord, secondWord, unpack, packed, formulaAt, Ground}
+use Rattle.sheet.specs.Fields.{Sheet}
+use Rattle.net.specs.Net.{Net, meaning}
+use Rattle.net.specs.Layout.{form-same, framesOf, firstWord, secondWord, unpack, packed, formulaAt, Ground}
 use Rattle.net.specs.Sheet.{NetOf}
 use Rattle.net.specs.Link.{lowPart, Linked}
 
@@ -100,13 +100,13 @@ pub linked-ground : {net net′ : List ℕ} → Ground net → Linked net net′
 linked-ground {net} {net′} G L =
     record {
       ordered = rw (linked-same L) (G .ordered);
-      ranged = λ k. subst (Ranged variables) (sym (L .nodes k)) (G .ranged k);
+      ranged = λ k. rw (form-same net net′ (L .long), L .nodes k) (G .ranged k);
       distinct = rw (linked-same L) (G .distinct);
       room = omega (arith, G .room, L .long, L .count);
       few = omega (arith, G .few, L .long);
     }
 
-pub linked-net : {s net net′ : List ℕ} → Linked net net′ → NetOf s net → NetOf s net′
+pub linked-net : {s : Sheet} {net net′ : List ℕ} → Linked net net′ → NetOf s net → NetOf s net′
 linked-net {s} {net} {net′} L N =
     record {
       ground = linked-ground (N .ground) L;

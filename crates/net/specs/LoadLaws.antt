@@ -15,41 +15,44 @@ use Rattle.formula.specs.Ask.{bit-free}
 use Rattle.formula.specs.ReasonWord.{within-range}
 use Rattle.sheet.specs.declared.Kind.{Kind}
 use Rattle.sheet.specs.declared.Kind.the-variants.{Never, Input, Not, And, Or, Exists, Forall}
-use Rattle.sheet.specs.Frames.{frames, kind, kind-past}
-use Rattle.sheet.specs.Frames as Sheet
-use Rattle.sheet.specs.Rules.{variables, binds}
+use Rattle.form.specs.Form.{most-place, few-variables}
+use Rattle.form.specs.declared.Form.{Form}
+use Rattle.sheet.specs.Fields.{Sheet, frames, variables, kind}
+use Rattle.sheet.specs.Frames.{kind-past}
+use Rattle.sheet.specs.Frames as Sheets
+use Rattle.sheet.specs.Rules.{binds}
 use Rattle.sheet.specs.Accepted.{ordered-bounded}
 use Rattle.net.specs.Net.{Fixed, Binds, Net, fit-at, replace-here, replace-other, Ranged, Clear, Distinct}
 use Rattle.net.specs.Decode.{nodeOfKind, decoded, decoded-ordered, decoded-value, decoded-free}
-use Rattle.net.specs.Layout.{firstWord, secondWord, unpack, packed}
+use Rattle.net.specs.Layout.{netWords, form-words, firstWord, secondWord, unpack, packed}
 use Rattle.net.specs.StoreLaws.{Stored, stored-long, stored-other, stored-net, none-behind}
-use Rattle.net.specs.Sheet.{netWords, Checked, NetOf, last}
+use Rattle.net.specs.Sheet.{Checked, NetOf, last}
 use Rattle.net.specs.Load.{boundOf, emptyNet, Empty, Loading}
 
 -- a frame names frames and variables whose numbers fit a node's bits
-pub loading-fit : {s net : List ℕ} {k : ℕ} {d : Kind} → Loading s net k → d ≡ kind s k → Sheet.Fit variables 4096 d
-loading-fit {s} {net} {k} {d} L e = rw e (Sheet.fit-later 32 k 4096 (kind s k) (omega (arith, L .within, L .few)) (L .ordered .fit k))
+pub loading-fit : {s : Sheet} {net : List ℕ} {k : ℕ} {d : Kind} → Loading s net k → d ≡ kind s k → Sheets.Fit 64 4096 d
+loading-fit {s} {net} {k} {d} L e = rw e (Sheets.fit-more (variables s) 64 k 4096 (kind s k) (few-variables (s .form)) (omega (arith, L .within, L .few, most-place (s .form))) (L .ordered .fit k))
 
 -- nothing is stored yet
-pub loading-none : {s net : List ℕ} {free : ℕ} → Checked s free → Empty net → Loading s net 0
+pub loading-none : {s : Sheet} {net : List ℕ} {free : ℕ} → Checked s free → Empty (s .form) net → Loading s net 0
 loading-none {s} {net} C E =
     record {
       ordered = C .ordered;
       few = C .few;
-      long = ap length (E .is) ∙ length-replicate {A = ℕ} netWords 0;
+      long = ap length (E .is) ∙ length-replicate {A = ℕ} (netWords (s .form)) 0;
       within = omega arith;
       nodes = λ j h. absurd (omega arith);
-      behind = λ i h. ap (λ (l : List ℕ). getD l i 0) (E .is) ∙ zero-at i;
+      behind = λ i h. ap (λ (l : List ℕ). getD l i 0) (E .is) ∙ zero-at (s .form) i;
     }
   where
-    zero-at : (i : ℕ) → getD emptyNet i 0 ≡ 0
-    zero-at i =
-        by-bool (ltb i netWords)
-        (λ e. getD-replicate netWords i 0 0 (ltb-true i netWords e))
-        (λ e. List·getD-eq-default emptyNet 0 {n = i} (omega (tests, length-replicate {A = ℕ} netWords 0)))
+    zero-at : (F : Form) (i : ℕ) → getD (emptyNet F) i 0 ≡ 0
+    zero-at F i =
+        by-bool (ltb i (netWords F))
+        (λ e. getD-replicate (netWords F) i 0 0 (ltb-true i (netWords F) e))
+        (λ e. List·getD-eq-default (emptyNet F) 0 {n = i} (omega (tests, length-replicate {A = ℕ} (netWords F) 0)))
 
 -- one more
-pub loading-next : {s net net′ : List ℕ} {k mask : ℕ} {d : Kind} (word : ℕ) → Loading s net k → k < frames s → d ≡ kind s k → unpack word (boundOf d) ≡ nodeOfKind d → mask ≡ boundOf d
+pub loading-next : {s : Sheet} {net net′ : List ℕ} {k mask : ℕ} {d : Kind} (word : ℕ) → Loading s net k → k < frames s → d ≡ kind s k → unpack word (boundOf d) ≡ nodeOfKind d → mask ≡ boundOf d
     → net′ ≡ set (set net (firstWord k) word) (secondWord k) mask → Loading s net′ (k + 1)
 loading-next {s} {net} {net′} {k} {mask} {d} word L h e u m n =
     let S : Stored net k word mask net′ = record { is = n } in
@@ -79,14 +82,14 @@ mask-binds (Exists a b c) {d} {m} {x} e v = let z : rangeMask b c ≡ m = cc in 
 mask-binds (Forall a b c) {d} {m} {x} e v = let z : rangeMask b c ≡ m = cc in ap (λ (w : ℕ). bit w v) (sym z) ∙ within-range b c v
 
 -- a frame that binds a variable is one of the sheet's
-binds-in : (s : List ℕ) (k v : ℕ) → binds (kind s k) v ≡ true → k < frames s
+binds-in : (s : Sheet) (k v : ℕ) → binds (kind s k) v ≡ true → k < frames s
 unfolding binds
 binds-in s k v e =
     by-bool (ltb k (frames s))
     (λ h. ltb-true k (frames s) h)
     (λ h. clash (binds (kind s k) v) e (ap (λ (u : Kind). binds u v) (kind-past s k (omega tests))))
 
-kind-ranged : (n k : ℕ) (u : Kind) → Sheet.Fit n k u → Ranged n (nodeOfKind u)
+kind-ranged : (n k : ℕ) (u : Kind) → Sheets.Fit n k u → Ranged n (nodeOfKind u)
 unfolding nodeOfKind
 kind-ranged n k Never w = tt
 kind-ranged n k (Input x) w = w
@@ -97,14 +100,14 @@ kind-ranged n k (Exists a b c) w = tt
 kind-ranged n k (Forall a b c) w = tt
 
 -- what a checked sheet's rules give its net
-module _ {s : List ℕ} {free : ℕ} (C : Checked s free) where
+module _ {s : Sheet} {free : ℕ} (C : Checked s free) where
   decoded-binds : (k : ℕ) {d : Bool} {m x : ℕ} → decoded (kind s) k ≡ Binds d m x → (v : ℕ) → bit m v ≡ binds (kind s k) v
   unfolding decoded
   decoded-binds k e v = mask-binds (kind s k) e v
 
-  decoded-ranged : (k : ℕ) → Ranged variables (decoded (kind s) k)
+  decoded-ranged : (k : ℕ) → Ranged (variables s) (decoded (kind s) k)
   unfolding decoded
-  decoded-ranged k = kind-ranged 32 k (kind s k) (C .ordered .fit k)
+  decoded-ranged k = kind-ranged (variables s) k (kind s k) (C .ordered .fit k)
 
   decoded-distinct : Distinct (decoded (kind s))
   decoded-distinct =
@@ -114,7 +117,7 @@ module _ {s : List ℕ} {free : ℕ} (C : Checked s free) where
               (λ t.
               let p = sym (decoded-binds j e′ v) ∙ b in
               let q = sym (decoded-binds k e v) ∙ t in
-              absurd (omega (arith, C .once j k v (binds-in s j v p) (binds-in s k v q) p q, fit-at (decoded-ordered 32 (kind s) (C .ordered)) e)))
+              absurd (omega (arith, C .once j k v (binds-in s j v p) (binds-in s k v q) p q, fit-at (decoded-ordered (variables s) (kind s) (C .ordered)) e)))
               (λ t. t));
         };
       }
@@ -124,15 +127,15 @@ module _ {s : List ℕ} {free : ℕ} (C : Checked s free) where
       record {
         apart = λ j {m = m} h e. apart-bits m free (λ v b.
             let p = sym (decoded-binds j e v) ∙ b in
-            ap (λ (w : ℕ). bit w v) (C .opens) ∙ bit-free (ordered-bounded 32 (kind s) (C .ordered) (last s)) v ∙ C .closed j v (binds-in s j v p) p);
+            ap (λ (w : ℕ). bit w v) (C .opens) ∙ bit-free (ordered-bounded (variables s) (kind s) (C .ordered) (last s)) v ∙ C .closed j v (binds-in s j v p) p);
       }
 
 -- every frame is stored, and the head is set
-module _ {s net : List ℕ} (L : Loading s net (frames s)) (free : ℕ) where
+module _ {s : Sheet} {net : List ℕ} (L : Loading s net (frames s)) (free : ℕ) where
   abbrev headed : List ℕ
   headed = set (set net 0 (frames s)) 1 free
 
-  headed-long : length headed ≡ netWords
+  headed-long : length headed ≡ netWords (s .form)
   headed-long = length-set (set net 0 (frames s)) 1 free ∙ length-set net 0 (frames s) ∙ L .long
 
   headed-other : (i : ℕ) → 2 ≤ i → getD headed i 0 ≡ getD net i 0
@@ -159,7 +162,7 @@ module _ {s net : List ℕ} (L : Loading s net (frames s)) (free : ℕ) where
       (λ t. headed-past k (omega tests) ∙ ap nodeOfKind (sym (kind-past s k (omega tests)))))
 
 -- that is the sheet's net
-pub loaded-net : {s net net′ : List ℕ} {n free : ℕ} → Checked s free → Loading s net (frames s) → n ≡ frames s → net′ ≡ set (set net 0 n) 1 free → NetOf s net′
+pub loaded-net : {s : Sheet} {net net′ : List ℕ} {n free : ℕ} → Checked s free → Loading s net (frames s) → n ≡ frames s → net′ ≡ set (set net 0 n) 1 free → NetOf s net′
 loaded-net {s} {net} {net′} {n} {free} C L e h =
     let is = headed-is L free in
     let count = headed-count L free in
@@ -167,16 +170,16 @@ loaded-net {s} {net} {net′} {n} {free} C L e h =
     let long = headed-long L free in
     rw (h, e) (record {
       ground = record {
-        ordered = rw is (decoded-ordered 32 (kind s) (C .ordered));
-        ranged = λ k. rw is (decoded-ranged C k);
+        ordered = rw is (decoded-ordered (variables s) (kind s) (C .ordered));
+        ranged = λ k. rw (is, form-words (s .form) _ long) (decoded-ranged C k);
         distinct = rw is (decoded-distinct C);
         room = omega (arith, count, long, C .few);
-        few = omega (arith, long);
+        few = omega (arith, long, most-place (s .form));
       };
       long = long;
       count = count;
       opens = opens ∙ C .opens;
-      each = λ k l. rw is (record { same = λ σ. decoded-value 32 (kind s) (C .ordered) k σ; reads = λ x. decoded-free 32 (kind s) (C .ordered) k x });
+      each = λ k l. rw is (record { same = λ σ. decoded-value (variables s) (kind s) (C .ordered) k σ; reads = λ x. decoded-free (variables s) (kind s) (C .ordered) k x });
       clear = rw (is, opens) (decoded-clear C);
       first-empty = rw count (headed-other L free (firstWord (frames s)) (omega arith) ∙ L .behind (firstWord (frames s)) (omega arith));
       second-empty = rw count (headed-other L free (secondWord (frames s)) (omega arith) ∙ L .behind (secondWord (frames s)) (omega arith));

@@ -9,12 +9,13 @@ use lib.Bits.{bitOr}
 use lib.Dec.{eqb}
 use borrow.Author.Tests.{ne-eqb}
 use Rattle.words.specs.Mask.{or-apart}
-use Rattle.sheet.specs.Rules.{variables}
+use Rattle.form.specs.Form as Sizes
+use Rattle.sheet.specs.Fields.{Sheet}
 use Rattle.net.specs.Net.{Node, Binds, Net, nodeOf, node-binds, replace, replace-other, fit-at, Ordered, Clear, Distinct}
 use Rattle.net.specs.Clear.{clear-less, clear-or, clear-replace, distinct-replace, ranged-replace}
 use Rattle.net.specs.Stands.{stands-trans}
 use Rattle.net.specs.Nest.{nest-stands, nest-ordered}
-use Rattle.net.specs.Layout.{framesOf, firstWord, secondWord, unpack, packed, Ground, Is, is-binds}
+use Rattle.net.specs.Layout.{netForm, form-same, framesOf, firstWord, secondWord, unpack, packed, Ground, Is, is-binds}
 use Rattle.net.specs.StoreLaws.{Stored, stored-long, stored-other, stored-count, stored-opens, stored-net}
 use Rattle.net.specs.Sheet.{NetOf}
 
@@ -32,7 +33,7 @@ module _ {N : Net} {k q x m n : ℕ} {d : Bool} (o : Ordered N) (outer : N k ≡
 
 -- ---- in the words
 
-module _ {s net net′ : List ℕ} {k op left right mask op′ left′ right′ mask′ w : ℕ} (N : NetOf s net) (l : k < framesOf net)
+module _ {s : Sheet} {net net′ : List ℕ} {k op left right mask op′ left′ right′ mask′ w : ℕ} (N : NetOf s net) (l : k < framesOf net)
     (I : Is net k op left right mask) (h : 6 ≤ op) (J : Is net left op′ left′ right′ mask′) (same : op′ ≡ op)
     (W : unpack w (bitOr mask mask′) ≡ nodeOf op left′ 0 (bitOr mask mask′)) (S : Stored net k w (bitOr mask mask′) net′) where
   abbrev both : Node
@@ -51,7 +52,7 @@ module _ {s net net′ : List ℕ} {k op left right mask op′ left′ right′ 
   nested-ground =
       record {
         ordered = rw nested (nest-ordered (N .ground .ordered) outer inner);
-        ranged = λ j. rw nested (ranged-replace variables (packed net) k both (N .ground .ranged) tt j);
+        ranged = λ j. rw (nested, form-same net net′ (stored-long S)) (ranged-replace (Sizes.variables (netForm net)) (packed net) k both (N .ground .ranged) tt j);
         distinct = rw nested (nest-distinct (N .ground .ordered) outer inner (N .ground .distinct));
         room = omega (arith, N .ground .room, stored-long S, stored-count S);
         few = omega (arith, N .ground .few, stored-long S);

@@ -199,6 +199,13 @@ Ranged n (Flips a) = Unit {0}
 Ranged n (Joins d a b) = Unit {0}
 Ranged n (Binds d m a) = Unit {0}
 
+pub ranged-more : {n m : ℕ} (u : Node) → n ≤ m → Ranged n u → Ranged m u
+ranged-more (Fixed v) h r = tt
+ranged-more (Reads x) h r = omega arith
+ranged-more (Flips a) h r = tt
+ranged-more (Joins d a b) h r = tt
+ranged-more (Binds d m a) h r = tt
+
 -- no quantifier among the nodes up to a binds a variable of z
 pub record Clear (N : Net) (a z : ℕ) : Type 0 where
   pub apart : (j : ℕ) {d : Bool} {m x : ℕ} → j ≤ a → N j ≡ Binds d m x → Apart m z

@@ -10,10 +10,11 @@ use lib.Dec.{eqb, ltb}
 use borrow.Author.Tests.{ne-eqb, eq-eqb}
 use Rattle.words.specs.Logic.{by-bool, tests}
 use Rattle.words.specs.Mask.{Sub, Apart}
-use Rattle.sheet.specs.Rules.{variables}
+use Rattle.form.specs.Form as Sizes
+use Rattle.sheet.specs.Fields.{Sheet}
 use Rattle.net.specs.Net.{Node, Fixed, Binds, nodeOf, node-fixed, node-reads, node-flips, node-joins, node-binds, replace, replace-here, replace-other, fit-at, meaning-agree, ordered-replace, Clear, Distinct}
 use Rattle.net.specs.Clear.{clear-sub, clear-replace, distinct-replace, ranged-replace}
-use Rattle.net.specs.Layout.{framesOf, freeOf, firstWord, secondWord, unpack, packed, formulaAt, Ground, Is, val, decides}
+use Rattle.net.specs.Layout.{netForm, form-same, framesOf, freeOf, firstWord, secondWord, unpack, packed, formulaAt, Ground, Is, val, decides}
 use Rattle.net.specs.StoreLaws.{Stored, stored-long, stored-count, stored-opens, stored-net}
 use Rattle.net.specs.Sheet.{NetOf}
 use Rattle.net.specs.Own.{Chosen, Forgotten}
@@ -46,7 +47,7 @@ fixed-binds : {d : Bool} {m x : ℕ} → Fixed false ≡ Binds d m x → ⊥
 fixed-binds e = let z : _≡_ {A = ℕ} 0 1 = cc in omega arith
 
 -- no node at all binds a free variable
-pub net-clear : {s net : List ℕ} → NetOf s net → (a : ℕ) → Clear (packed net) a (freeOf net)
+pub net-clear : {s : Sheet} {net : List ℕ} → NetOf s net → (a : ℕ) → Clear (packed net) a (freeOf net)
 net-clear {s} {net} N a =
     record {
       apart = λ j l e. by-bool (ltb j (framesOf net))
@@ -54,7 +55,7 @@ net-clear {s} {net} N a =
           (λ i. absurd (fixed-binds (sym (N .behind j (omega tests)) ∙ e)));
     }
 
-module _ {s net : List ℕ} {d mask : ℕ} {net′ : List ℕ} (N : NetOf s net) (S : Sub mask (freeOf net)) (C : Chosen net d mask net′) where
+module _ {s : Sheet} {net : List ℕ} {d mask : ℕ} {net′ : List ℕ} (N : NetOf s net) (S : Sub mask (freeOf net)) (C : Chosen net d mask net′) where
   stored : Stored net (framesOf net) (C .word) mask net′
   stored = record { is = C .is }
 
@@ -84,7 +85,7 @@ module _ {s net : List ℕ} {d mask : ℕ} {net′ : List ℕ} (N : NetOf s net)
   chosen-ground =
       record {
         ordered = rw chosen-net (ordered-replace (packed net) (framesOf net) own (N .ground .ordered) (omega (arith, C .some)));
-        ranged = λ j. rw chosen-net (ranged-replace variables (packed net) (framesOf net) own (N .ground .ranged) tt j);
+        ranged = λ j. rw (chosen-net, form-same net net′ chosen-long) (ranged-replace (Sizes.variables (netForm net)) (packed net) (framesOf net) own (N .ground .ranged) tt j);
         distinct = chosen-distinct;
         room = omega (arith, N .ground .room, chosen-long, chosen-count);
         few = omega (arith, N .ground .few, chosen-long);
@@ -111,7 +112,7 @@ blank-again : (net : List ℕ) (a b w m : ℕ) → (b ≡ a → ⊥) → getD ne
 blank-again net a b w m n e h =
     rw (set-comm (set net a w) b a m 0 n, set-set net a w 0, blank net a e, set-set net b m 0) (blank net b h)
 
-pub forgotten-back : {s net : List ℕ} {d mask : ℕ} {net′ net″ : List ℕ} → NetOf s net → Chosen net d mask net′ → Forgotten net′ net″ → net″ ≡ net
+pub forgotten-back : {s : Sheet} {net : List ℕ} {d mask : ℕ} {net′ net″ : List ℕ} → NetOf s net → Chosen net d mask net′ → Forgotten net′ net″ → net″ ≡ net
 forgotten-back {s} {net} {d} {mask} {net′} N C F =
     let S : Stored net (framesOf net) (C .word) mask net′ = record { is = C .is } in
     F .is

@@ -7,39 +7,36 @@ use lib.ListN.{length, getD}
 use Rattle.formula.specs.Formula.{Formula}
 use Rattle.formula.specs.Formula as Truth
 use Rattle.formula.specs.Ask.{freeMask}
-use Rattle.sheet.specs.Frames.{frames, kind, formula}
-use Rattle.sheet.specs.Frames as Sheet
-use Rattle.sheet.specs.Rules.{variables, mostFrames, binds}
+use Rattle.sheet.specs.Fields.{Sheet, frames, mostFrames, variables, kind}
+use Rattle.sheet.specs.Frames.{formula}
+use Rattle.sheet.specs.Frames as Sheets
+use Rattle.sheet.specs.Rules.{binds}
 -- the number of the last frame
 pub use Rattle.sheet.specs.Rules.{last}
 use Rattle.net.specs.Net.{Fixed, Clear}
-use Rattle.net.specs.Layout.{framesOf, freeOf, firstWord, secondWord, packed, formulaAt, Ground}
+use Rattle.net.specs.Layout.{netWords, netForm, form-words, framesOf, freeOf, firstWord, secondWord, packed, formulaAt, Ground}
 use Rattle.net.specs.Stands.{Stands}
 
 -- the formula of the whole sheet
-abbrev pub root : List ℕ → Formula
+abbrev pub root : Sheet → Formula
 root s = formula s (last s)
 
 -- s is a sheet that was checked, and free are the free (open) variables of its last frame
-pub record Checked (s : List ℕ) (free : ℕ) : Type 0 where
-  pub ordered : Sheet.Ordered variables (kind s)
+pub record Checked (s : Sheet) (free : ℕ) : Type 0 where
+  pub ordered : Sheets.Ordered (variables s) (kind s)
   pub some : 0 < frames s
-  pub few : frames s ≤ mostFrames
-  pub opens : free ≡ freeMask variables (root s)
+  pub few : frames s ≤ mostFrames s
+  pub opens : free ≡ freeMask (variables s) (root s)
   -- a variable is bound by one frame at most, and none that is bound is free in the last frame
   pub once : (j k v : ℕ) → j < frames s → k < frames s → binds (kind s j) v ≡ true → binds (kind s k) v ≡ true → j ≡ k
   pub closed : (k v : ℕ) → k < frames s → binds (kind s k) v ≡ true → Truth.free (root s) v ≡ false
 
--- words for every sheet's frames and one node more
-abbrev pub netWords : ℕ
-netWords = firstWord (mostFrames + 1)
-
 -- the net of s: every node of a frame stands for it, and the place behind the last frame is empty
-pub record NetOf (s net : List ℕ) : Type 0 where
+pub record NetOf (s : Sheet) (net : List ℕ) : Type 0 where
   pub ground : Ground net
-  pub long : length net ≡ netWords
+  pub long : length net ≡ netWords (s .form)
   pub count : framesOf net ≡ frames s
-  pub opens : freeOf net ≡ freeMask variables (root s)
+  pub opens : freeOf net ≡ freeMask (variables s) (root s)
   pub each : (k : ℕ) → k < frames s → Stands (formula s k) (formulaAt net k)
   pub clear : Clear (packed net) (last s) (freeOf net)
   pub first-empty : getD net (firstWord (framesOf net)) 0 ≡ 0
@@ -48,5 +45,9 @@ pub record NetOf (s net : List ℕ) : Type 0 where
   pub behind : (k : ℕ) → framesOf net ≤ k → packed net k ≡ Fixed false
 
 -- the free variables are those that the net has
-pub checked-net : {s net : List ℕ} {free : ℕ} → Checked s free → NetOf s net → Checked s (freeOf net)
+pub checked-net : {s : Sheet} {net : List ℕ} {free : ℕ} → Checked s free → NetOf s net → Checked s (freeOf net)
 checked-net {s} k n = subst (Checked s) (k .opens ∙ sym (n .opens)) k
+
+-- the net has the form of its sheet
+pub net-form : {s : Sheet} {net : List ℕ} → NetOf s net → netForm net ≡ s .form
+net-form {s} {net} n = form-words (s .form) net (n .long)

@@ -3,8 +3,9 @@ ghost use mathlib.Core.Path.{_≡_};
 ghost use Prim.Native.Nat.{_+_, _<_};
 ghost use lib.Dec.{ltb};
 ghost use lib.ListN.{length, set};
-ghost use Rattle.sheet.specs.Frames.{frames, kind, Fit};
-ghost use Rattle.sheet.specs.Rules.{variables};
+ghost use Rattle.form.specs.Form.{formOf};
+ghost use Rattle.sheet.specs.Fields.{sheetOf, frames, kind};
+ghost use Rattle.sheet.specs.Frames.{Fit};
 ghost use Rattle.net.specs.Decode.{nodeOfKind};
 ghost use Rattle.net.specs.Layout.{unpack};
 ghost use Rattle.net.specs.Sheet.{Checked, NetOf};
@@ -16,23 +17,16 @@ use crate::rewrite::nest;
 use sheet::Frame;
 use sheet::Kind;
 use sheet::reader;
-use words::w64;
 
-fn index(frame: u16) -> usize
-    ensures { λ r. ⌜ r ≡ frame ⌝ }
+fn index(field: u16) -> usize
+    ensures { λ r. ⌜ r ≡ field ⌝ }
 {
-    frame as usize
-}
-
-fn place(variable: u8) -> usize
-    ensures { λ r. ⌜ r ≡ variable ⌝ }
-{
-    variable as usize
+    field as usize
 }
 
 // The variables that a frame of this kind binds.
 fn mask_of(kind: Kind) -> u64
-    requires { ⌜ Fit variables 4096 kind ⌝ }
+    requires { ⌜ Fit 64 4096 kind ⌝ }
     ensures { λ r. ⌜ r ≡ boundOf kind ⌝ }
 {
     match kind {
@@ -41,19 +35,19 @@ fn mask_of(kind: Kind) -> u64
         Kind::Not(_) => 0,
         Kind::And(_, _) => 0,
         Kind::Or(_, _) => 0,
-        Kind::Exists(_, b, c) => w64::range_mask(b, c),
-        Kind::Forall(_, b, c) => w64::range_mask(b, c),
+        Kind::Exists(_, b, c) => sheet::range_word(b, c),
+        Kind::Forall(_, b, c) => sheet::range_word(b, c),
     }
 }
 
 // The first word of the frame's node.
 fn word_of(kind: Kind) -> u64
-    requires { ⌜ Fit variables 4096 kind ⌝ }
+    requires { ⌜ Fit 64 4096 kind ⌝ }
     ensures { λ r. ⌜ unpack r (boundOf kind) ≡ nodeOfKind kind ⌝ }
 {
     match kind {
         Kind::Never => 0,
-        Kind::Input(x) => word(2, place(x), 0),
+        Kind::Input(x) => word(2, index(x), 0),
         Kind::Not(a) => word(3, index(a), 0),
         Kind::And(a, b) => word(4, index(a), index(b)),
         Kind::Or(a, b) => word(5, index(a), index(b)),
@@ -62,33 +56,36 @@ fn word_of(kind: Kind) -> u64
     }
 }
 
-// A pass over the frames: whether one is left.
+// A pass over the frames: whether the sheet is wide, and whether a frame is left.
 struct Pass {
+    wide: bool,
     more: bool,
 }
 
 // One turn of the pass: the frame that the reader gave becomes its node.
-fn store(sheet: &[u8], net: &mut [u64], frame: Frame) -> Pass
-    requires { ⌜ Loading (now sheet) (now net) (frame .number) × (frame .number < frames (now sheet)) × (frame .kind ≡ kind (now sheet) (frame .number)) ⌝ }
-    ensures { λ r. ⌜ Loading (now (sheet .entry)) (now (net .exit)) (frame .number + 1) × (r .more ≡ ltb (frame .number + 1) (frames (now (sheet .entry)))) ⌝ }
+fn store(sheet: &[u8], net: &mut [u64], pass: Pass, frame: Frame) -> Pass
+    requires { ⌜ Loading (sheetOf (formOf (pass .wide)) (now sheet)) (now net) (frame .number) × (frame .number < frames (sheetOf (formOf (pass .wide)) (now sheet))) × (frame .kind ≡ kind (sheetOf (formOf (pass .wide)) (now sheet)) (frame .number)) ⌝ }
+    ensures { λ r. ⌜ Loading (sheetOf (formOf (pass .wide)) (now (sheet .entry))) (now (net .exit)) (frame .number + 1) × (r .more ≡ ltb (frame .number + 1) (frames (sheetOf (formOf (pass .wide)) (now (sheet .entry))))) × (r .wide ≡ pass .wide) ⌝ }
 {
+    let form = form::of(pass.wide);
     let k = frame.number;
     let kind = frame.kind;
     put(net, k, word_of(kind), mask_of(kind));
     Pass {
-        more: k + 1 < sheet.len() / 4,
+        wide: pass.wide,
+        more: k + 1 < form::frames(form, sheet.len()),
     }
 }
 
 // The pass from frame 0 on: one reader is stepped along the sheet.
 fn load_frames(sheet: &[u8], net: &mut [u64], mut pass: Pass) -> Pass
-    requires { ⌜ Loading (now sheet) (now net) 0 × (pass .more ≡ ltb 0 (frames (now sheet))) ⌝ }
-    ensures { λ r. ⌜ Loading (now (sheet .entry)) (now (net .exit)) (frames (now (sheet .entry))) ⌝ }
+    requires { ⌜ Loading (sheetOf (formOf (pass .wide)) (now sheet)) (now net) 0 × (pass .more ≡ ltb 0 (frames (sheetOf (formOf (pass .wide)) (now sheet)))) ⌝ }
+    ensures { λ r. ⌜ Loading (sheetOf (formOf (pass .wide)) (now (sheet .entry))) (now (net .exit)) (frames (sheetOf (formOf (pass .wide)) (now (sheet .entry)))) ⌝ }
 {
-    let mut reader = reader::new(sheet, 0);
+    let mut reader = reader::new(sheet, 0, pass.wide);
     while pass.more {
         let frame = reader::next(&mut reader);
-        pass = store(sheet, net, frame);
+        pass = store(sheet, net, pass, frame);
     }
     pass
 }
@@ -102,14 +99,15 @@ fn head(net: &mut [u64], frames: usize, free: u64)
     net[1] = free;
 }
 
-// The whole sheet, rewritten and linked. The net has room for every sheet and one node more, and is empty.
-pub fn load(sheet: &[u8], free: u64, net: &mut [u64])
-    requires { ⌜ Checked (now sheet) free × Empty (now net) ⌝ }
-    ensures { λ _. ⌜ NetOf (now (sheet .entry)) (now (net .exit)) ⌝ }
+// The whole sheet, rewritten and linked. The net has room for every sheet of the form and one node more, and is empty.
+pub fn load(sheet: &[u8], wide: bool, free: u64, net: &mut [u64])
+    requires { ⌜ Checked (sheetOf (formOf wide) (now sheet)) free × Empty (formOf wide) (now net) ⌝ }
+    ensures { λ _. ⌜ NetOf (sheetOf (formOf wide) (now (sheet .entry))) (now (net .exit)) ⌝ }
 {
-    let first = Pass { more: true };
+    let first = Pass { wide, more: true };
     load_frames(sheet, net, first);
-    head(net, sheet.len() / 4, free);
+    let form = form::of(wide);
+    head(net, form::frames(form, sheet.len()), free);
     nest(net);
     link(net);
 }

@@ -7,6 +7,7 @@ mod rewrite;
 
 pub use decode::load;
 pub use node::Node;
+pub use node::form;
 pub use node::frames;
 pub use node::free;
 pub use node::node_at;

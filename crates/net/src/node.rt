@@ -8,10 +8,21 @@ ghost use mathlib.Core.Path.{_≡_};
 ghost use Prim.Native.Nat.{ℕ, _+_, _*_, _<_};
 ghost use lib.ListN.{length, set};
 ghost use Rattle.net.specs.Net.{nodeOf};
-ghost use Rattle.net.specs.Layout.{framesOf, freeOf, firstWord, secondWord, HasNode, unpack, Is, decides};
+ghost use Rattle.net.specs.Layout.{netForm, framesOf, freeOf, firstWord, secondWord, HasNode, unpack, Is, decides};
+use form::Form;
 
 // Where the nodes begin.
 pub const NODES: usize = 66;
+
+// The words of a narrow sheet's net: 200 nodes and one more.
+const NARROW_WORDS: usize = 468;
+
+// The form of the net's sheet: a wide one has room for more nodes.
+pub fn form(net: &[u64]) -> Form
+    ensures { λ r. ⌜ r ≡ netForm (now (net .entry)) ⌝ }
+{
+    form::of(net.len() > NARROW_WORDS)
+}
 
 // A node. op: 0 false, 1 true, 2 INPUT left, 3 NOT left, 4 AND, 5 OR, 6 EXISTS mask left, 7 FORALL mask left.
 pub struct Node {

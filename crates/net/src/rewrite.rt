@@ -1,7 +1,7 @@
 // The first rewrite: a quantifier directly over one of its kind binds the variables of both.
-ghost use mathlib.Core.List.{List};
-ghost use Prim.Native.Nat.{ℕ, _<_};
+ghost use Prim.Native.Nat.{_<_};
 ghost use Rattle.net.specs.Layout.{framesOf};
+ghost use Rattle.sheet.specs.Fields.{Sheet};
 ghost use Rattle.net.specs.Sheet.{NetOf};
 use crate::node::frames;
 use crate::node::node_at;
@@ -10,8 +10,8 @@ use crate::node::word;
 
 // Node k, if it is such a quantifier.
 fn nest_at(net: &mut [u64], k: usize)
-    requires { ⌜ ((s : List ℕ) × NetOf s (now net)) × (k < framesOf (now net)) ⌝ }
-    ensures { λ _. ⌜ ((s : List ℕ) → NetOf s (now (net .entry)) → NetOf s (now (net .exit))) ⌝ }
+    requires { ⌜ ((s : Sheet) × NetOf s (now net)) × (k < framesOf (now net)) ⌝ }
+    ensures { λ _. ⌜ ((s : Sheet) → NetOf s (now (net .entry)) → NetOf s (now (net .exit))) ⌝ }
 {
     let outer = node_at(&net[..], k);
     if outer.op < 6 {
@@ -31,8 +31,8 @@ fn nest_at(net: &mut [u64], k: usize)
 
 // Every node, from the first on, so that a row of quantifiers becomes one.
 pub fn nest(net: &mut [u64])
-    requires { ⌜ ((s : List ℕ) × NetOf s (now net)) ⌝ }
-    ensures { λ _. ⌜ ((s : List ℕ) → NetOf s (now (net .entry)) → NetOf s (now (net .exit))) ⌝ }
+    requires { ⌜ ((s : Sheet) × NetOf s (now net)) ⌝ }
+    ensures { λ _. ⌜ ((s : Sheet) → NetOf s (now (net .entry)) → NetOf s (now (net .exit))) ⌝ }
 {
     let n = frames(&net[..]);
     let mut k: usize = 0;

@@ -10,9 +10,8 @@ use lib.ListN.{length, getD, drop, length-append}
 use lib.Seq.{sets, drop-cons, drop-length, length-sets}
 use borrow.Author.Tests.{ne-eqb}
 use Rattle.words.specs.Word.{bit}
-use Rattle.sheet.specs.Rules.{variables}
 use Rattle.sheet.specs.declared.Kind.{Kind}
-use Rattle.prenex.specs.Kinds.{Run, ended, runsFrom, runs, quantifier, runKinds, frameBytes, sheetBytes}
+use Rattle.prenex.specs.Kinds.{variables, Run, ended, runsFrom, runs, quantifier, runKinds, frameBytes, sheetBytes}
 use Rattle.prenex.specs.Code.{even, wordKinds}
 use Rattle.prenex.specs.PrefixLaws.{run-kinds-length}
 use Rattle.prenex.specs.StoreLaws.{sheet-none, sheet-one, store-append}

@@ -11,11 +11,11 @@ use Rattle.words.specs.Logic.{by-bool, tests}
 use Rattle.formula.specs.Assignment.{Assignment, join}
 use Rattle.formula.specs.Formula.{Formula, gate, truth, free}
 use Rattle.sheet.specs.Frames.{build, formulaOf, Fit, OrderedBelow, formula-below}
-use Rattle.sheet.specs.Rules.{variables, binds}
+use Rattle.sheet.specs.Rules.{binds}
 use Rattle.sheet.specs.declared.Kind.{Kind}
 use Rattle.sheet.specs.declared.Kind.the-variants.{Input, Not, And, Or}
 use Rattle.prenex.specs.Question.{Every, every-none, every-one}
-use Rattle.prenex.specs.Kinds.{having, count, chain, chainEnd}
+use Rattle.prenex.specs.Kinds.{variables, having, count, chain, chainEnd}
 use Rattle.prenex.specs.SheetLaws.{Has, has-head, has-tail}
 
 -- ---- frames that name earlier ones, and none of them a quantifier or never

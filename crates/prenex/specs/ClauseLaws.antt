@@ -11,12 +11,11 @@ use lib.ListN.{length, getD, drop, set, length-drop, length-map, length-set, dro
 use lib.Seq.{sets, length-sets, drop-cons}
 use borrow.Author.Tests.{ne-eqb}
 use Rattle.words.specs.Logic.{by-bool, clash}
-use Rattle.sheet.specs.Rules.{variables}
 use Rattle.sheet.specs.declared.Kind.{Kind}
 use Rattle.sheet.specs.declared.Kind.the-variants.{And, Or}
 use Rattle.prenex.specs.declared.clause.Link.{Link}
 use Rattle.prenex.specs.Question.{Literal, Clause, Every, every-none, every-one}
-use Rattle.prenex.specs.Kinds.{count, chain, chainEnd, frameBy, clauseKinds, clauseEnds, conjunctionKinds, frameBytes, sheetBytes}
+use Rattle.prenex.specs.Kinds.{variables, count, chain, chainEnd, frameBy, clauseKinds, clauseEnds, conjunctionKinds, frameBytes, sheetBytes}
 use Rattle.prenex.specs.Code.{literalOf, toFirst, clausesOf, kindsWithin, endsWithin}
 use Rattle.prenex.specs.Writing.{Linked, Members, Clauses}
 use Rattle.prenex.specs.StoreLaws.{store-frame, sheet-none}

@@ -5,10 +5,18 @@ use mathlib.Core.List.{List, [], _∷_, _++_, map}
 use mathlib.Core.Path.{_≡_}
 use lib.Dec.{eqb}
 use lib.ListN.{length}
-use Rattle.sheet.specs.Rules.{variables}
+use Rattle.form.specs.Form as Sizes
+use Rattle.form.specs.declared.Form.the-variants.{Narrow}
 use Rattle.sheet.specs.declared.Kind.{Kind}
 use Rattle.sheet.specs.declared.Kind.the-variants.{Never, Input, Not, And, Or, Exists, Forall}
 use Rattle.prenex.specs.Question.{Literal, Block, Clause, Question, occurs, negated, member}
+
+-- questions have narrow sheets: variables are 0 to 31, frames at most 200
+abbrev pub variables : ℕ
+variables = Sizes.variables Narrow
+
+abbrev pub mostFrames : ℕ
+mostFrames = Sizes.mostFrames Narrow
 
 -- ---- numbers with a property, among the n from x on
 

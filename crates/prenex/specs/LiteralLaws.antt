@@ -11,11 +11,10 @@ use lib.ListN.{length, getD, drop, drop-of-length-le}
 use lib.Seq.{sets, drop-cons, length-sets}
 use borrow.Author.Tests.{ne-eqb}
 use Rattle.words.specs.Word.{bit, bit-or, bit-pow, bit-none}
-use Rattle.sheet.specs.Rules.{variables}
 use Rattle.sheet.specs.declared.Kind.{Kind}
 use Rattle.prenex.specs.declared.literal.Occurring.{Occurring}
 use Rattle.prenex.specs.Question.{Literal, Clause, someLiteral, someClause, occurs, negated}
-use Rattle.prenex.specs.Kinds.{having, count, frameBytes, sheetBytes}
+use Rattle.prenex.specs.Kinds.{variables, having, count, frameBytes, sheetBytes}
 use Rattle.prenex.specs.Code.{literalOf, toFirst, clausesOf}
 use Rattle.prenex.specs.Writing.{With}
 use Rattle.prenex.specs.StoreLaws.{store-frame, sheet-none}

@@ -12,12 +12,12 @@ use Rattle.words.specs.Logic.{by-bool, or-left, or-right, or-cases, and-both}
 use Rattle.formula.specs.Assignment.{Assignment, join}
 use Rattle.formula.specs.Formula.{input, neg, truth, free}
 use Rattle.sheet.specs.Frames.{build, formulaOf, OrderedBelow}
-use Rattle.sheet.specs.Rules.{variables, binds}
+use Rattle.sheet.specs.Rules.{binds}
 use Rattle.sheet.specs.declared.Kind.{Kind}
 use Rattle.sheet.specs.declared.Kind.the-variants.{Input, Not, And, Or}
 use Rattle.prenex.specs.Question.{Literal, Clause, literalTruth, clauseTruth, matrixTruth, someLiteral, someClause, occurs, negated}
 use Rattle.prenex.specs.Question.{Every, every-none, every-one, SomeBelow}
-use Rattle.prenex.specs.Kinds.{having, count, chain, chainEnd, inputKinds, inputFrame, negationKinds, inputs, negations, frameBy, literalFrame}
+use Rattle.prenex.specs.Kinds.{variables, having, count, chain, chainEnd, inputKinds, inputFrame, negationKinds, inputs, negations, frameBy, literalFrame}
 use Rattle.prenex.specs.Kinds.{clauseKinds, clauseEnds, conjunctionKinds, literalKinds, disjunctionKinds, matrixKinds}
 use Rattle.prenex.specs.Every.{every-map}
 use Rattle.prenex.specs.SheetLaws.{Has, has-left, has-right}

@@ -8,12 +8,11 @@ use mathlib.Core.Path.{_≡_, refl, sym, ap, _∙_}
 use lib.ListN.{length, take, drop, length-append, length-map}
 use lib.Seq.{sets, length-sets, take-at}
 use Rattle.words.specs.Stores.{sets-start}
-use Rattle.sheet.specs.Rules.{variables}
 use Rattle.sheet.specs.declared.Kind.{Kind}
 use Rattle.sheet.specs.declared.Kind.the-variants.{Input, Not}
 use Rattle.prenex.specs.declared.clause.Chained.{Chained}
 use Rattle.prenex.specs.Question.{Literal, Clause, occurs, negated}
-use Rattle.prenex.specs.Kinds.{having, count, frameBy, clauseKinds, clauseEnds, conjunctionKinds, inputKinds, negationKinds, inputFrame, inputs, negations, literalKinds, disjunctionKinds, matrixKinds, sheetBytes}
+use Rattle.prenex.specs.Kinds.{variables, having, count, frameBy, clauseKinds, clauseEnds, conjunctionKinds, inputKinds, negationKinds, inputFrame, inputs, negations, literalKinds, disjunctionKinds, matrixKinds, sheetBytes}
 use Rattle.prenex.specs.Code.{clausesOf}
 use Rattle.prenex.specs.Writing.{Members, Clauses}
 use Rattle.prenex.specs.CountLaws.{having-length}

@@ -12,12 +12,12 @@ use Rattle.formula.specs.Assignment.{Assignment, within, sweep, none, union, mi
 use Rattle.formula.specs.Assignment.{by-value, differ, sweep-finds, sweep-meets}
 use Rattle.formula.specs.Formula.{Formula, quant, truth, free}
 use Rattle.sheet.specs.Frames.{build, formulaOf, Fit, OrderedBelow, formula-below}
-use Rattle.sheet.specs.Rules.{variables, binds}
+use Rattle.sheet.specs.Rules.{binds}
 use Rattle.sheet.specs.declared.Kind.{Kind}
 use Rattle.sheet.specs.declared.Kind.the-variants.{Never, Input, Not, And, Or, Exists, Forall}
 use Rattle.prenex.specs.Question.{Block, overAtoms, underBlocks, member, allAtoms, quantified}
 use Rattle.prenex.specs.Question.{Every, every-none, every-one, Distinct, distinct-one}
-use Rattle.prenex.specs.Kinds.{Run, runs, quantifier, runKinds, blockKinds}
+use Rattle.prenex.specs.Kinds.{variables, Run, runs, quantifier, runKinds, blockKinds}
 use Rattle.prenex.specs.SheetLaws.{Has, has-left, has-right, has-head, has-tail}
 use Rattle.prenex.specs.ChainLaws.{Below}
 use Rattle.prenex.specs.RunLaws.{Ascending, no-run, next-run, runs-ascending, inRuns, in-runs, ascending-apart}

@@ -1,73 +1,53 @@
 -- The sheet of a question keeps the rules for a sheet, and its formula has the question's truth and free variables. Assumes nothing.
-use Prim.Native.Nat.{ℕ, zero, suc, _+_, _-_, _*_, _≤_, _<_}
-use native.Mathlib.Nat.{le-trans, add-zero, zero-add}
+use Prim.Native.Nat.{ℕ, _+_, _-_, _≤_, _<_}
+use native.Mathlib.Nat.{le-trans, zero-add}
 use native.Mathlib.Omega.{arith}
 use mathlib.Core.Path.{_≡_, refl, sym, _∙_, ap, subst}
 use mathlib.Core.Bool.{Bool, true, false, not, _&&_, and-false}
 use mathlib.Core.Logic.{⊎-elim}
-use mathlib.Core.List.{List, [], _∷_, _++_, List·Memᴰ, List·Memᴰ·cases-cons, List·Memᴰ·not-nil}
+use mathlib.Core.List.{List, [], _∷_, List·Memᴰ, List·Memᴰ·cases-cons, List·Memᴰ·not-nil}
 use lib.Dec.{ltb}
-use lib.ListN.{length, getD, drop, replicate, length-append, List·getD-append}
-use lib.Seq.{getD-drop}
+use lib.ListN.{length, getD, length-append}
 use Rattle.words.specs.Logic.{by-bool, clash, tests}
 use Rattle.formula.specs.Assignment.{Assignment}
 use Rattle.formula.specs.Formula.{truth, free}
-use Rattle.sheet.specs.Frames.{frames, kind, formula, Fit, Ordered, OrderedBelow, kind-past}
-use Rattle.sheet.specs.Rules.{variables, last, used, names, binds}
+use Rattle.sheet.specs.Fields.{Sheet, narrow, frames, kind}
+use Rattle.sheet.specs.Frames.{formula, Fit, Ordered, OrderedBelow, kind-past}
+use Rattle.sheet.specs.Rules.{last, used, names, binds}
 use Rattle.sheet.specs.Keeps.{Quantifies, Keeps}
 use Rattle.sheet.specs.declared.Kind.{Kind}
 use Rattle.sheet.specs.declared.Kind.the-variants.{Never, Input, Not, And, Or, Exists, Forall}
 use Rattle.prenex.specs.Question.{Literal, Block, Clause, Question, matrixTruth, questionTruth, occurs, allAtoms, quantified}
 use Rattle.prenex.specs.Question.{Every, Distinct, SomeBelow, Proper}
-use Rattle.prenex.specs.Kinds.{matrixKinds, blockKinds, kinds, frameBytes, sheetBytes, sheetOf}
-use Rattle.prenex.specs.SheetLaws.{frame-length, behind, sheet-length, sheet-frames, sheet-kind, Has, has-left, has-right, sheet-has}
+use Rattle.prenex.specs.Kinds.{variables, matrixKinds, blockKinds, kinds, frameBytes, sheetBytes, sheetOf}
+use Rattle.prenex.specs.SheetLaws.{fieldsOf, sheet-length, sheet-frames, sheet-fields, sheet-kind, Has, has-left, has-right, sheet-has}
 use Rattle.prenex.specs.ChainLaws.{Plain, plain-input, plain-not, plain-and, plain-or}
 use Rattle.prenex.specs.Every.{every-map, every-wider}
 use Rattle.prenex.specs.MatrixLaws.{MatrixStands, matrix-stands}
 use Rattle.prenex.specs.PrefixLaws.{BlocksBelow, Stands, stands-same, stands-blocks, Ranged, Binds, binds-same, binds-none, binds-join, binds-blocks}
 
--- ---- the bytes of a frame
+-- ---- the fields of a frame
 
-sheet-byte : (ks : List Kind) (k j : ℕ) → k < length ks → j < 4 → getD (sheetBytes ks) (k * 4 + j) 0 ≡ getD (frameBytes (getD ks k Never)) j 0
-unfolding sheetBytes
-sheet-byte [] k j h i = absurd (omega arith)
-sheet-byte (d ∷ ks) zero j h i =
-    ap (λ (n : ℕ). getD (frameBytes d ++ sheetBytes ks) n 0) (omega arith)
-    ∙ List·getD-append (frameBytes d) (sheetBytes ks) 0 j (omega (arith, frame-length d))
-sheet-byte (d ∷ ks) (suc k) j h i = behind d (sheetBytes ks) (k * 4 + j) (suc k * 4 + j) (omega arith) ∙ sheet-byte ks k j (omega arith) i
-
-frame-known : (d : Kind) → getD (frameBytes d) 0 0 ≤ 6
+fields-known : (d : Kind) → fieldsOf d .k ≤ 6
 unfolding frameBytes
-frame-known Never = omega arith
-frame-known (Input x) = omega arith
-frame-known (Not a) = omega arith
-frame-known (And a b) = omega arith
-frame-known (Or a b) = omega arith
-frame-known (Exists a b c) = omega arith
-frame-known (Forall a b c) = omega arith
+fields-known Never = omega arith
+fields-known (Input x) = omega arith
+fields-known (Not a) = omega arith
+fields-known (And a b) = omega arith
+fields-known (Or a b) = omega arith
+fields-known (Exists a b c) = omega arith
+fields-known (Forall a b c) = omega arith
 
--- behind the bytes that a kind uses there are zeros
-frame-rest : (d : Kind) → drop (suc (used d)) (frameBytes d) ≡ replicate (3 - used d) 0
+-- those that a kind does not use are 0
+fields-spare : (d : Kind) → (used d < 1 → fieldsOf d .a ≡ 0) × (used d < 2 → fieldsOf d .b ≡ 0) × (used d < 3 → fieldsOf d .c ≡ 0)
 unfolding frameBytes used
-frame-rest Never = refl
-frame-rest (Input x) = refl
-frame-rest (Not a) = refl
-frame-rest (And a b) = refl
-frame-rest (Or a b) = refl
-frame-rest (Exists a b c) = refl
-frame-rest (Forall a b c) = refl
-
-zeros : (n i : ℕ) → getD {A = ℕ} (replicate n 0) i 0 ≡ 0
-zeros zero i = refl
-zeros (suc n) zero = refl
-zeros (suc n) (suc i) = zeros n i
-
-frame-spare : (d : Kind) (j : ℕ) → used d < j → getD (frameBytes d) j 0 ≡ 0
-frame-spare d j h =
-    ap (λ (n : ℕ). getD (frameBytes d) n 0) (omega arith)
-    ∙ sym (getD-drop (suc (used d)) (frameBytes d) (j - suc (used d)) 0)
-    ∙ ap (λ (l : List ℕ). getD l (j - suc (used d)) 0) (frame-rest d)
-    ∙ zeros (3 - used d) (j - suc (used d))
+fields-spare Never = (λ h. refl, λ h. refl, λ h. refl)
+fields-spare (Input x) = (λ h. absurd (omega arith), λ h. refl, λ h. refl)
+fields-spare (Not a) = (λ h. absurd (omega arith), λ h. refl, λ h. refl)
+fields-spare (And a b) = (λ h. absurd (omega arith), λ h. absurd (omega arith), λ h. refl)
+fields-spare (Or a b) = (λ h. absurd (omega arith), λ h. absurd (omega arith), λ h. refl)
+fields-spare (Exists a b c) = (λ h. absurd (omega arith), λ h. absurd (omega arith), λ h. absurd (omega arith))
+fields-spare (Forall a b c) = (λ h. absurd (omega arith), λ h. absurd (omega arith), λ h. absurd (omega arith))
 
 -- ---- the rules
 
@@ -93,16 +73,16 @@ fit-range k a b c d w r q =
 
 -- kinds whose frames are in order and bind each variable of m once, none of them open in the last frame, make a sheet
 sheet-keeps : (ks : List Kind) (m : ℕ → Bool) → 1 ≤ length ks → length ks ≤ 200
-    → OrderedBelow (length ks) variables (kind (sheetBytes ks)) → Binds (kind (sheetBytes ks)) 0 (length ks) m
-    → ((v : ℕ) → m v ≡ true → free (formula (sheetBytes ks) (length ks - 1)) v ≡ false) → Keeps (sheetBytes ks)
+    → OrderedBelow (length ks) variables (kind (narrow (sheetBytes ks))) → Binds (kind (narrow (sheetBytes ks))) 0 (length ks) m
+    → ((v : ℕ) → m v ≡ true → free (formula (narrow (sheetBytes ks)) (length ks - 1)) v ≡ false) → Keeps (narrow (sheetBytes ks))
 sheet-keeps ks m l u o b c = record {
   whole = omega (arith, sheet-length ks);
   least = omega (arith, n);
   most = omega (arith, n);
-  known = λ k h.
-      rw (sym (ap (λ (i : ℕ). getD s i 0) (add-zero (k * 4))) ∙ sheet-byte ks k 0 (rw n at h) (omega arith))
-      (frame-known (getD ks k Never));
-  spare = λ k j h i e. sheet-byte ks k j (rw n at h) e ∙ frame-spare (getD ks k Never) j (rw (sheet-kind ks k) at i);
+  known = λ k h. rw (sheet-fields ks k (rw n at h)) (fields-known (getD ks k Never));
+  spare-a = λ k h i. rw (sheet-fields ks k (rw n at h)) (fields-spare (getD ks k Never) .0 (rw (sheet-kind ks k) at i));
+  spare-b = λ k h i. rw (sheet-fields ks k (rw n at h)) (fields-spare (getD ks k Never) .1 (rw (sheet-kind ks k) at i));
+  spare-c = λ k h i. rw (sheet-fields ks k (rw n at h)) (fields-spare (getD ks k Never) .2 (rw (sheet-kind ks k) at i));
   earlier = λ k a h i. fit-earlier k a (kind s k) (o k (rw n at h)) i;
   variable = λ k x h e. let w : x < variables = subst (Fit variables k) e (o k (rw n at h)) in omega arith;
   range = λ k a x y h q. fit-range k a x y (kind s k) (o k (rw n at h)) (b .ranged k (omega arith) (rw n at h)) q;
@@ -110,8 +90,8 @@ sheet-keeps ks m l u o b c = record {
   closed = λ k v h t. rw n (c v (b .bound k v (omega arith) (rw n at h) t));
 }
   where
-    s : List ℕ
-    s = sheetBytes ks
+    s : Sheet
+    s = narrow (sheetBytes ks)
 
     n : frames s ≡ length ks
     n = sheet-frames ks
@@ -119,20 +99,20 @@ sheet-keeps ks m l u o b c = record {
 -- ---- the matrix alone
 
 pub record SheetOfMatrix (cs : List Clause) : Type 0 where
-  pub ordered : Ordered variables (kind (sheetBytes (matrixKinds cs)))
-  pub least : 0 < frames (sheetBytes (matrixKinds cs))
-  pub most : frames (sheetBytes (matrixKinds cs)) ≤ 200
-  pub unbound : (k v : ℕ) → k < frames (sheetBytes (matrixKinds cs)) → binds (kind (sheetBytes (matrixKinds cs)) k) v ≡ false
-  pub truth-is : (σ : Assignment) → truth (formula (sheetBytes (matrixKinds cs)) (last (sheetBytes (matrixKinds cs)))) σ ≡ matrixTruth cs σ
-  pub free-is : (x : ℕ) → free (formula (sheetBytes (matrixKinds cs)) (last (sheetBytes (matrixKinds cs)))) x ≡ occurs cs x
+  pub ordered : Ordered variables (kind (narrow (sheetBytes (matrixKinds cs))))
+  pub least : 0 < frames (narrow (sheetBytes (matrixKinds cs)))
+  pub most : frames (narrow (sheetBytes (matrixKinds cs))) ≤ 200
+  pub unbound : (k v : ℕ) → k < frames (narrow (sheetBytes (matrixKinds cs))) → binds (kind (narrow (sheetBytes (matrixKinds cs))) k) v ≡ false
+  pub truth-is : (σ : Assignment) → truth (formula (narrow (sheetBytes (matrixKinds cs))) (last (narrow (sheetBytes (matrixKinds cs))))) σ ≡ matrixTruth cs σ
+  pub free-is : (x : ℕ) → free (formula (narrow (sheetBytes (matrixKinds cs))) (last (narrow (sheetBytes (matrixKinds cs))))) x ≡ occurs cs x
 
 -- past the end there is Never
-sheet-ordered : (ks : List Kind) → OrderedBelow (length ks) variables (kind (sheetBytes ks)) → Ordered variables (kind (sheetBytes ks))
+sheet-ordered : (ks : List Kind) → OrderedBelow (length ks) variables (kind (narrow (sheetBytes ks))) → Ordered variables (kind (narrow (sheetBytes ks)))
 sheet-ordered ks o = record {
   fit = λ k.
       by-bool (ltb k (length ks))
       (λ e. o k (omega tests))
-      (λ e. rw (kind-past (sheetBytes ks) k (omega (tests, sheet-frames ks))) tt);
+      (λ e. rw (kind-past (narrow (sheetBytes ks)) k (omega (tests, sheet-frames ks))) tt);
 }
 
 abbrev pub ClausesBelow : List Clause → Type 0
@@ -158,9 +138,9 @@ matrix-sheet cs l b u =
 -- ---- the question
 
 pub record SheetOf (q : Question) : Type 0 where
-  pub keeps : Keeps (sheetOf q)
-  pub truth-is : (σ : Assignment) → truth (formula (sheetOf q) (last (sheetOf q))) σ ≡ questionTruth q σ
-  pub free-is : (x : ℕ) → free (formula (sheetOf q) (last (sheetOf q))) x ≡ occurs (q .clauses) x && not (quantified (q .blocks) x)
+  pub keeps : Keeps (narrow (sheetOf q))
+  pub truth-is : (σ : Assignment) → truth (formula (narrow (sheetOf q)) (last (narrow (sheetOf q)))) σ ≡ questionTruth q σ
+  pub free-is : (x : ℕ) → free (formula (narrow (sheetOf q)) (last (narrow (sheetOf q)))) x ≡ occurs (q .clauses) x && not (quantified (q .blocks) x)
 
 blocks-below : {n : ℕ} {bs : List Block} → n ≤ variables → Every (λ (b : Block). SomeBelow (λ (x : ℕ). x) n (b .atoms)) bs → BlocksBelow bs
 blocks-below h w = every-map (λ b x. every-map (λ y z. le-trans z h) (x .below)) w
@@ -211,8 +191,8 @@ question-sheet q w l u =
     let n = sheet-frames (kinds q) in
     let below = blocks-below l (w .blocks-below) in
     let matrix = matrix-stands (q .clauses) (w .some-clause) (clauses-below l (w .clauses-below)) (has-matrix q h) in
-    let whole = question-stands (kind (sheetOf q)) q h matrix below in
-    let bound = question-binds (kind (sheetOf q)) q h matrix below (w .once) in
+    let whole = question-stands (kind (narrow (sheetOf q))) q h matrix below in
+    let bound = question-binds (kind (narrow (sheetOf q))) q h matrix below (w .once) in
     record {
       keeps = sheet-keeps (kinds q) (quantified (q .blocks)) (whole .least) u (whole .ordered) bound
           (λ v t. whole .free-is v ∙ rw t (and-false (occurs (q .clauses) v)));

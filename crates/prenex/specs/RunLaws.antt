@@ -9,8 +9,7 @@ use lib.Dec.{eqb, leb, ltb}
 use borrow.Author.Tests.{leb-true, ltb-true, eqb-true, le-leb, lt-ltb}
 use Rattle.words.specs.Logic.{by-bool, clash, tests, same-test, and-both, or-cases, or-left, or-right}
 use Rattle.formula.specs.Assignment.{within, within-zero, within-suc}
-use Rattle.sheet.specs.Rules.{variables}
-use Rattle.prenex.specs.Kinds.{Run, ended, runsFrom, runs}
+use Rattle.prenex.specs.Kinds.{variables, Run, ended, runsFrom, runs}
 
 -- ---- ranges by their ends
 

@@ -7,7 +7,10 @@ use lib.ListN.{length, getD, length-append, List·getD-append, List·getD-eq-def
 use lib.Dec.{ltb}
 use lib.Seq.{getD-append-add}
 use Rattle.words.specs.Logic.{by-bool, tests}
-use Rattle.sheet.specs.Frames.{frames, kindOf, kind, kind-at, kind-past}
+use Rattle.form.specs.declared.Form.the-variants.{Narrow}
+use Rattle.sheet.specs.Fields.{narrow, frames, laid, fieldsAt, kindOf, kind, fields-at}
+use Rattle.sheet.specs.Frames.{kind-past}
+use Rattle.sheet.specs.declared.Fields.{Fields}
 use Rattle.sheet.specs.declared.Kind.{Kind}
 use Rattle.sheet.specs.declared.Kind.the-variants.{Never, Input, Not, And, Or, Exists, Forall}
 use Rattle.prenex.specs.Kinds.{frameBytes, sheetBytes}
@@ -29,7 +32,7 @@ unfolding sheetBytes
 sheet-length [] = refl
 sheet-length (d ∷ ks) = length-append (frameBytes d) (sheetBytes ks) ∙ omega (arith, frame-length d, sheet-length ks)
 
-pub sheet-frames : (ks : List Kind) → frames (sheetBytes ks) ≡ length ks
+pub sheet-frames : (ks : List Kind) → frames (narrow (sheetBytes ks)) ≡ length ks
 sheet-frames ks = omega (arith, sheet-length ks)
 
 pub sheet-append : (xs ys : List Kind) → sheetBytes (xs ++ ys) ≡ sheetBytes xs ++ sheetBytes ys
@@ -37,41 +40,54 @@ unfolding sheetBytes
 sheet-append [] ys = refl
 sheet-append (d ∷ xs) ys = ap (λ (l : List ℕ). frameBytes d ++ l) (sheet-append xs ys) ∙ sym (append-assoc (frameBytes d) (sheetBytes xs) (sheetBytes ys))
 
--- the kind that the bytes from the place i on say
-abbrev said : List ℕ → ℕ → Kind
-said s i = kindOf (getD s i 0) (getD s (i + 1) 0) (getD s (i + 2) 0) (getD s (i + 3) 0)
-
-first-said : (d : Kind) (s : List ℕ) → said (frameBytes d ++ s) 0 ≡ d
-unfolding frameBytes kindOf
-first-said Never s = refl
-first-said (Input x) s = refl
-first-said (Not a) s = refl
-first-said (And a b) s = refl
-first-said (Or a b) s = refl
-first-said (Exists a b c) s = refl
-first-said (Forall a b c) s = refl
-
-pub behind : (d : Kind) (s : List ℕ) (i j : ℕ) → j ≡ 4 + i → getD (frameBytes d ++ s) j 0 ≡ getD s i 0
+behind : (d : Kind) (s : List ℕ) (i j : ℕ) → j ≡ 4 + i → getD (frameBytes d ++ s) j 0 ≡ getD s i 0
 behind d s i j e = rw (e, ← (frame-length d)) (getD-append-add (frameBytes d) s i 0)
 
-said-at : (ks : List Kind) (k : ℕ) → k < length ks → said (sheetBytes ks) (k * 4) ≡ getD ks k Never
+-- the fields that a kind has as a frame
+abbrev pub fieldsOf : Kind → Fields
+fieldsOf d = laid Narrow (frameBytes d) 0
+
+first-laid : (d : Kind) (s : List ℕ) → laid Narrow (frameBytes d ++ s) 0 ≡ fieldsOf d
+unfolding frameBytes
+first-laid Never s = refl
+first-laid (Input x) s = refl
+first-laid (Not a) s = refl
+first-laid (And a b) s = refl
+first-laid (Or a b) s = refl
+first-laid (Exists a b c) s = refl
+first-laid (Forall a b c) s = refl
+
+laid-at : (ks : List Kind) (k : ℕ) → k < length ks → laid Narrow (sheetBytes ks) k ≡ fieldsOf (getD ks k Never)
 unfolding sheetBytes
-said-at [] k h = absurd (omega arith)
-said-at (d ∷ ks) zero h = first-said d (sheetBytes ks)
-said-at (d ∷ ks) (suc k) h =
+laid-at [] k h = absurd (omega arith)
+laid-at (d ∷ ks) zero h = first-laid d (sheetBytes ks)
+laid-at (d ∷ ks) (suc k) h =
     rw (
       behind d (sheetBytes ks) (k * 4) (suc k * 4) (omega arith),
       behind d (sheetBytes ks) (k * 4 + 1) (suc k * 4 + 1) (omega arith),
       behind d (sheetBytes ks) (k * 4 + 2) (suc k * 4 + 2) (omega arith),
       behind d (sheetBytes ks) (k * 4 + 3) (suc k * 4 + 3) (omega arith),
     )
-    (said-at ks k (omega arith))
+    (laid-at ks k (omega arith))
 
-pub sheet-kind : (ks : List Kind) (k : ℕ) → kind (sheetBytes ks) k ≡ getD ks k Never
+pub sheet-fields : (ks : List Kind) (k : ℕ) → k < length ks → fieldsAt (narrow (sheetBytes ks)) k ≡ fieldsOf (getD ks k Never)
+sheet-fields ks k h = fields-at (narrow (sheetBytes ks)) k (omega (arith, sheet-frames ks)) ∙ laid-at ks k h
+
+fields-kind : (d : Kind) → kindOf (fieldsOf d) ≡ d
+unfolding frameBytes kindOf
+fields-kind Never = refl
+fields-kind (Input x) = refl
+fields-kind (Not a) = refl
+fields-kind (And a b) = refl
+fields-kind (Or a b) = refl
+fields-kind (Exists a b c) = refl
+fields-kind (Forall a b c) = refl
+
+pub sheet-kind : (ks : List Kind) (k : ℕ) → kind (narrow (sheetBytes ks)) k ≡ getD ks k Never
 sheet-kind ks k =
     by-bool (ltb k (length ks))
-    (λ e. kind-at (sheetBytes ks) k (omega (tests, sheet-frames ks)) ∙ said-at ks k (omega tests))
-    (λ e. kind-past (sheetBytes ks) k (omega (tests, sheet-frames ks)) ∙ sym (List·getD-eq-default ks Never (omega tests)))
+    (λ e. ap kindOf (sheet-fields ks k (omega tests)) ∙ fields-kind (getD ks k Never))
+    (λ e. kind-past (narrow (sheetBytes ks)) k (omega (tests, sheet-frames ks)) ∙ sym (List·getD-eq-default ks Never (omega tests)))
 
 -- ---- the kinds ks stand in κ from frame n on
 
@@ -95,5 +111,5 @@ has-head {κ} h = ap κ (omega arith) ∙ h .at 0 (omega arith)
 pub has-tail : {κ : ℕ → Kind} {n : ℕ} {d : Kind} {ks : List Kind} → Has κ n (d ∷ ks) → Has κ (suc n) ks
 has-tail {κ} h = record { at = λ i e. ap κ (omega arith) ∙ h .at (suc i) (omega arith) }
 
-pub sheet-has : (ks : List Kind) → Has (kind (sheetBytes ks)) 0 ks
-sheet-has ks = record { at = λ i e. ap (kind (sheetBytes ks)) (omega arith) ∙ sheet-kind ks i }
+pub sheet-has : (ks : List Kind) → Has (kind (narrow (sheetBytes ks))) 0 ks
+sheet-has ks = record { at = λ i e. ap (kind (narrow (sheetBytes ks))) (omega arith) ∙ sheet-kind ks i }

@@ -8,12 +8,11 @@ use lib.Dec.{eqb}
 use lib.ListN.{length, length-append, length-map}
 use borrow.Author.Tests.{eqb-true, eq-eqb, ne-eqb}
 use Rattle.words.specs.Logic.{by-bool, clash, tests}
-use Rattle.sheet.specs.Rules.{variables}
 use Rattle.sheet.specs.declared.Kind.{Kind}
 use Rattle.sheet.specs.declared.Kind.the-variants.{Input, And, Or}
 use Rattle.prenex.specs.Question.{Literal, Block, Clause, Question, someLiteral, someClause, occurs, member}
 use Rattle.prenex.specs.Question.{Every, every-none, every-one, SomeBelow, Proper}
-use Rattle.prenex.specs.Kinds.{having, chain, inputKinds, negationKinds, inputs, negations, literalFrame, literalKinds, clauseKinds, clauseEnds}
+use Rattle.prenex.specs.Kinds.{variables, having, chain, inputKinds, negationKinds, inputs, negations, literalFrame, literalKinds, clauseKinds, clauseEnds}
 use Rattle.prenex.specs.Kinds.{conjunctionKinds, disjunctionKinds, matrixKinds, Run, ended, runsFrom, runs, runKinds, blockKinds, kinds}
 use Rattle.prenex.specs.Code.{literals}
 use Rattle.prenex.specs.CodeLaws.{clauses-literals}

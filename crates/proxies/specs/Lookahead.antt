@@ -8,7 +8,8 @@ use Rattle.words.specs.Word.{bit}
 use Rattle.formula.specs.Assignment.{Assignment, On}
 use Rattle.formula.specs.Formula.{Formula, truth, free}
 use Rattle.net.specs.Net.{Node, Fixed, Reads, Flips, Joins, Binds, meaning}
-use Rattle.net.specs.Layout.{packed}
+use Rattle.net.specs.Layout.{netForm, packed}
+use Rattle.form.specs.declared.Form.{Form}
 use Rattle.records.specs.Table.{frameAt, maskAt, valuesAt}
 use Rattle.proxies.specs.Kept.{Noted}
 use Rattle.proxies.specs.Told.{Told}
@@ -30,31 +31,31 @@ unfoldable pub body : List ℕ → ℕ → Formula
 body net k = meaning (λ j. proxied j (packed net j)) k
 
 -- a counted record of node b agrees with σ: b.U is true of σ (under table), b.O is false of it (over table)
-pub record Agreeing (t : List ℕ) (count b : ℕ) (σ : Assignment) : Type 0 where
+pub record Agreeing (F : Form) (t : List ℕ) (count b : ℕ) (σ : Assignment) : Type 0 where
   pub at : ℕ
   pub counted : at < count
-  pub frame : frameAt t at ≡ b
-  pub agrees : On (bit (maskAt t at)) σ (bit (valuesAt t at))
+  pub frame : frameAt F t at ≡ b
+  pub agrees : On (bit (maskAt F t at)) σ (bit (valuesAt F t at))
 
 -- b.p ⇒ b.O and ¬b.p ⇒ ¬b.U, of every b. (The proxies of quantifiers that are no children do not occur in F.)
-pub record Allowed (u : List ℕ) (cu : ℕ) (o : List ℕ) (co : ℕ) (σ : Assignment) : Type 0 where
-  pub true-proxy : (b : ℕ) → σ (proxy b) ≡ true → Agreeing o co b σ → ⊥
-  pub false-proxy : (b : ℕ) → σ (proxy b) ≡ false → Agreeing u cu b σ → ⊥
+pub record Allowed (F : Form) (u : List ℕ) (cu : ℕ) (o : List ℕ) (co : ℕ) (σ : Assignment) : Type 0 where
+  pub true-proxy : (b : ℕ) → σ (proxy b) ≡ true → Agreeing F o co b σ → ⊥
+  pub false-proxy : (b : ℕ) → σ (proxy b) ≡ false → Agreeing F u cu b σ → ⊥
 
 -- L: σ, which has values for the variables and the proxies, gives F the truth that is looked for, and is allowed
 pub record L (net u : List ℕ) (cu : ℕ) (o : List ℕ) (co a : ℕ) (target : Bool) (σ : Assignment) : Type 0 where
   pub holds : truth (body net a) σ ≡ target
-  pub allowed : Allowed u cu o co σ
+  pub allowed : Allowed (netForm net) u cu o co σ
 
 -- L': the same with b.p ⇒ b.U and ¬b.p ⇒ ¬b.O, of every child b
 pub record L′ (net u : List ℕ) (cu : ℕ) (o : List ℕ) (co a : ℕ) (target : Bool) (σ : Assignment) : Type 0 where
   pub holds : truth (body net a) σ ≡ target
-  pub true-proxy : (b : ℕ) → free (body net a) (proxy b) ≡ true → σ (proxy b) ≡ true → Agreeing u cu b σ
-  pub false-proxy : (b : ℕ) → free (body net a) (proxy b) ≡ true → σ (proxy b) ≡ false → Agreeing o co b σ
+  pub true-proxy : (b : ℕ) → free (body net a) (proxy b) ≡ true → σ (proxy b) ≡ true → Agreeing (netForm net) u cu b σ
+  pub false-proxy : (b : ℕ) → free (body net a) (proxy b) ≡ true → σ (proxy b) ≡ false → Agreeing (netForm net) o co b σ
 
 -- a child whose value is known: what `quantified` ensures of the child b when it is checked under the candidate w, of which the variables of m are set
 pub record Settled (net : List ℕ) (m w : ℕ) (u : List ℕ) (cu : ℕ) (o : List ℕ) (co b : ℕ) : Type 0 where
   pub value : ℕ
   pub reason : ℕ
   pub told : Told net m w b value reason
-  pub noted : Noted b value w u cu o co
+  pub noted : Noted (netForm net) b value w u cu o co

@@ -7,48 +7,50 @@ use mathlib.Core.Path.{_≡_, refl, sym, _∙_, ap, ap₂}
 use mathlib.Core.Bool.{Bool, true, false, not, cond}
 use mathlib.Core.Logic.{_⊎_, inl, inr}
 use mathlib.Core.List.{List}
+use lib.ListN.{length}
 use lib.Dec.{ltb}
 use borrow.Author.Tests.{lt-ltb, le-ltb, ltb-true}
 use Rattle.words.specs.Logic.{by-bool, clash, tests}
-use Rattle.words.specs.Word.{bit, bit-ones}
+use Rattle.words.specs.Word.{bit}
 use Rattle.words.specs.Mask.{bits-sub, agree-bits}
 use Rattle.formula.specs.Assignment.{Assignment, join}
 use Rattle.formula.specs.Formula.{Formula, truth, free}
 use Rattle.formula.specs.Reason.{explains-truth}
-use Rattle.sheet.specs.Rules.{variables}
-use Rattle.records.specs.Table.{Valid, room, maskAt, valuesAt, matches, matches-all, Kept, kept-grown}
+use Rattle.form.specs.Form.{room, variables, few-variables}
+use Rattle.form.specs.declared.Form.{Form}
+use Rattle.records.specs.Table.{Valid, maskAt, valuesAt, matches, matches-all, Kept, kept-grown}
 use Rattle.records.specs.Both.{Tables, TablesGrown}
 use Rattle.net.specs.Net.{Node, Fixed, Reads, Flips, Joins, Binds, Fit, Ordered, Ranged, fit-at, at-fixed, at-reads, at-flips, at-joins, upward}
-use Rattle.net.specs.Layout.{framesOf, packed, formulaAt, Ground, val, ground-bounded}
+use Rattle.net.specs.Layout.{netForm, framesOf, packed, formulaAt, Ground, val, ground-ranged, ground-bounded}
 use Rattle.proxies.specs.Kept.{all, lowWord, RecordAt, Recorded}
 use Rattle.imply.specs.Posed.{Covers}
-use Rattle.proxies.specs.KeptLaws.{low-bit, recorded-told}
+use Rattle.proxies.specs.KeptLaws.{bit-all, low-bit, recorded-told}
 use Rattle.proxies.specs.Lookahead.{proxy, proxied, body, Agreeing, Allowed, L, L′, Settled}
 
 -- ---- records and assignments
 
--- a record that matches the candidate w agrees with every assignment that has w's values below 32
-matching : {t : List ℕ} {count b j : ℕ} (w : ℕ) (σ : Assignment) → ((k : ℕ) → k < variables → σ k ≡ bit w k)
-    → j < count → matches t b all (lowWord w) j ≡ true → Agreeing t count b σ
-matching {t} {count} {b} {j} w σ h l e =
-    let m = matches-all t b all (lowWord w) j e in
+-- a record that matches the candidate w agrees with every assignment that has w's values of the form's variables
+matching : {F : Form} {t : List ℕ} {count b j : ℕ} (w : ℕ) (σ : Assignment) → ((k : ℕ) → k < variables F → σ k ≡ bit w k)
+    → j < count → matches F t b (all F) (lowWord F w) j ≡ true → Agreeing F t count b σ
+matching {F} {t} {count} {b} {j} w σ h l e =
+    let m = matches-all F t b (all F) (lowWord F w) j e in
     record {
       at = j;
       counted = l;
       frame = m .frame-is;
       agrees = λ k i.
-          let low = ltb-true k 32 (sym (bit-ones 32 k) ∙ bits-sub (m .inside) k i) in
-          h k low ∙ sym (low-bit w k low) ∙ agree-bits (maskAt t j) (valuesAt t j) (lowWord w) (m .agrees) k i;
+          let low = ltb-true k (variables F) (sym (bit-all F k) ∙ bits-sub (m .inside) k i) in
+          h k low ∙ sym (low-bit F w k low) ∙ agree-bits (maskAt F t j) (valuesAt F t j) (lowWord F w) (m .agrees) k i;
     }
 
 -- Law 1. What a record says of the child b under the candidate w is the only value that L leaves to b's proxy: true where b.U holds (by ¬b.p ⇒ ¬b.U),
 -- false where b.O does not (by b.p ⇒ b.O).
-pub recorded-leaves : {b w : ℕ} {u : List ℕ} {cu : ℕ} {o : List ℕ} {co v r : ℕ} → Recorded b w u cu o co v r → 0 < v
-    → (σ : Assignment) → ((k : ℕ) → k < variables → σ k ≡ bit w k) → Allowed u cu o co σ → σ (proxy b) ≡ val v
+pub recorded-leaves : {F : Form} {b w : ℕ} {u : List ℕ} {cu : ℕ} {o : List ℕ} {co v r : ℕ} → Recorded F b w u cu o co v r → 0 < v
+    → (σ : Assignment) → ((k : ℕ) → k < variables F → σ k ≡ bit w k) → Allowed F u cu o co σ → σ (proxy b) ≡ val v
 unfolding val
-recorded-leaves {b} {w} {u} {cu} {o} {co} {v} {r} R s σ h a = by (R s)
+recorded-leaves {F} {b} {w} {u} {cu} {o} {co} {v} {r} R s σ h a = by (R s)
   where
-    by : ((v ≡ 2) × RecordAt u cu b w r) ⊎ ((v ≡ 1) × RecordAt o co b w r) → σ (proxy b) ≡ val v
+    by : ((v ≡ 2) × RecordAt F u cu b w r) ⊎ ((v ≡ 1) × RecordAt F o co b w r) → σ (proxy b) ≡ val v
     by (inl (e, c)) = rw e (by-bool (σ (proxy b)) (λ z. z) (λ z. absurd (a .false-proxy b z (matching w σ h (c .counted) (c .hit)))))
     by (inr (e, c)) = rw e (by-bool (σ (proxy b)) (λ z. absurd (a .true-proxy b z (matching w σ h (c .counted) (c .hit)))) (λ z. z))
 
@@ -56,21 +58,21 @@ recorded-leaves {b} {w} {u} {cu} {o} {co} {v} {r} R s σ h a = by (R s)
 
 -- it stays so while the tables grow
 pub settled-grown : {net u u' : List ℕ} {cu cu' : ℕ} {o o' : List ℕ} {co co' m w b : ℕ}
-    → TablesGrown (formulaAt net) (framesOf net) u cu o co u' cu' o' co' → Settled net m w u cu o co b → Settled net m w u' cu' o' co' b
-settled-grown {w = w} {b = b} g q = record {
+    → TablesGrown (netForm net) (formulaAt net) (framesOf net) u cu o co u' cu' o' co' → Settled net m w u cu o co b → Settled net m w u' cu' o' co' b
+settled-grown {net} {w = w} {b = b} g q = record {
   value = q .value;
   reason = q .reason;
   told = q .told;
   noted = record {
-    under = λ e. kept-grown b all (lowWord w) (g .under) (q .noted .under e);
-    over = λ e. kept-grown b all (lowWord w) (g .over) (q .noted .over e);
+    under = λ e. kept-grown b (all (netForm net)) (lowWord (netForm net) w) (g .under) (q .noted .under e);
+    over = λ e. kept-grown b (all (netForm net)) (lowWord (netForm net) w) (g .over) (q .noted .over e);
   };
 }
 
 -- a child that `recorded` found a record of
-pub recorded-settled : {net u : List ℕ} {cu : ℕ} {o : List ℕ} {co m w b v r : ℕ} → Ground net → Tables (formulaAt net) (framesOf net) u cu o co → Covers net b m
-    → 0 < v → Recorded b w u cu o co v r → Settled net m w u cu o co b
-recorded-settled {v = v} {r = r} G T c s R = let q = recorded-told G T c s R in record { value = v; reason = r; told = q .0; noted = q .1 }
+pub recorded-settled : {net : List ℕ} {F : Form} {u : List ℕ} {cu : ℕ} {o : List ℕ} {co m w b v r : ℕ} → Ground net → F ≡ netForm net → Tables (netForm net) (formulaAt net) (framesOf net) u cu o co → Covers net b m
+    → 0 < v → Recorded F b w u cu o co v r → Settled net m w u cu o co b
+recorded-settled {v = v} {r = r} G ef T c s R = let q = recorded-told G ef T c s R in record { value = v; reason = r; told = q .0; noted = q .1 }
 
 -- ---- the candidate w with each proxy at its node's truth
 
@@ -104,10 +106,10 @@ module _ {net : List ℕ} (G : Ground net) (w : ℕ) where
   abbrev Claim : ℕ → Type 0
   Claim k = truth (body net k) (completed net w) ≡ truth (formulaAt net k) (bit w)
 
-  by-node : (k : ℕ) → ((x : ℕ) → x < k → Claim x) → (d : Node) → packed net k ≡ d → Ranged variables d → Claim k
+  by-node : (k : ℕ) → ((x : ℕ) → x < k → Claim x) → (d : Node) → packed net k ≡ d → Ranged 64 d → Claim k
   unfolding body proxied truth
   by-node k f (Fixed v) e r = at-fixed (proxied-ordered net (G .ordered)) (rw e) (completed net w) ∙ sym (at-fixed (G .ordered) e (bit w))
-  by-node k f (Reads x) e r = rw (at-reads (proxied-ordered net (G .ordered)) {k = k} {x = x} (rw e), at-reads (G .ordered) e) (completed-low net w x (omega (arith, r)))
+  by-node k f (Reads x) e r = rw (at-reads (proxied-ordered net (G .ordered)) {k = k} {x = x} (rw e), at-reads (G .ordered) e) (completed-low net w x r)
   by-node k f (Flips x) e r =
       rw (at-flips (proxied-ordered net (G .ordered)) {k = k} {a = x} (rw e), at-flips (G .ordered) e) (ap not (f x (fit-at (G .ordered) e)))
   by-node k f (Joins d x y) e r =
@@ -118,21 +120,21 @@ module _ {net : List ℕ} (G : Ground net) (w : ℕ) where
 
   -- F of a node has the body's truth
   pub completed-body : (k : ℕ) → truth (body net k) (completed net w) ≡ truth (formulaAt net k) (bit w)
-  completed-body = upward (λ k. Claim k) (λ k f. by-node k f (packed net k) refl (G .ranged k))
+  completed-body = upward (λ k. Claim k) (λ k f. by-node k f (packed net k) refl (ground-ranged G k))
 
   -- ---- true tables
 
-  -- a record of a true table that agrees with the completed candidate has the node's truth: its variables are free in the node, and so below 32
-  agreeing-truth : {t : List ℕ} {count b : ℕ} {v : Bool} → Valid (formulaAt net) (framesOf net) v t count → Agreeing t count b (completed net w) → completed net w (proxy b) ≡ v
+  -- a record of a true table that agrees with the completed candidate has the node's truth: its variables are free in the node, and so below 64
+  agreeing-truth : {t : List ℕ} {count b : ℕ} {v : Bool} → Valid (netForm net) (formulaAt net) (framesOf net) v t count → Agreeing (netForm net) t count b (completed net w) → completed net w (proxy b) ≡ v
   agreeing-truth {b = b} T c =
       let e = T .each (c .at) (c .counted) .explains in
       completed-proxy net w b
       ∙ ap (λ (k : ℕ). truth (formulaAt net k) (bit w)) (sym (c .frame))
-      ∙ e .forces (bit w) (λ k i. sym (completed-low net w k (omega (arith, ground-bounded G _ .below k (e .inside k i)))) ∙ c .agrees k i)
+      ∙ e .forces (bit w) (λ k i. sym (completed-low net w k (ground-bounded G _ .below k (e .inside k i))) ∙ c .agrees k i)
 
-  module _ {u : List ℕ} {cu : ℕ} {o : List ℕ} {co : ℕ} (T : Tables (formulaAt net) (framesOf net) u cu o co) where
+  module _ {u : List ℕ} {cu : ℕ} {o : List ℕ} {co : ℕ} (T : Tables (netForm net) (formulaAt net) (framesOf net) u cu o co) where
     -- b.U implies b and b implies b.O, so that the completed candidate has b.p ⇒ b.O and ¬b.p ⇒ ¬b.U
-    pub true-allowed : Allowed u cu o co (completed net w)
+    pub true-allowed : Allowed (netForm net) u cu o co (completed net w)
     true-allowed = record {
       true-proxy = λ b p c. clash (completed net w (proxy b)) p (agreeing-truth (T .over) c);
       false-proxy = λ b p c. clash (completed net w (proxy b)) (agreeing-truth (T .under) c) p;
@@ -145,26 +147,26 @@ module _ {net : List ℕ} (G : Ground net) (w : ℕ) where
   -- ---- L'
 
   -- a record that the search kept of a child agrees with the candidate: b.U holds of it (under table), or b.O does not (over table)
-  kept-agreeing : {t : List ℕ} {count b : ℕ} → count < room t → Kept t count b all (lowWord w) → Agreeing t count b (completed net w)
+  kept-agreeing : {t : List ℕ} {count b : ℕ} → count < room (netForm net) (length t) → Kept (netForm net) t count b (all (netForm net)) (lowWord (netForm net) w) → Agreeing (netForm net) t count b (completed net w)
   kept-agreeing h (inl l) = absurd (omega arith)
-  kept-agreeing h (inr (j, l, e)) = matching w (completed net w) (λ k i. completed-low net w k (omega arith)) l e
+  kept-agreeing h (inr (j, l, e)) = matching w (completed net w) (λ k i. completed-low net w k (omega (arith, few-variables (netForm net)))) l e
 
   -- such a child has its part of L', as long as the tables have room
   module _ {m : ℕ} {u : List ℕ} {cu : ℕ} {o : List ℕ} {co b : ℕ} (q : Settled net m w u cu o co b) where
     proxy-is : completed net w (proxy b) ≡ val (q .value)
     proxy-is = completed-proxy net w b ∙ explains-truth (q .told .forced .explains)
 
-    pub settled-true : cu < room u → completed net w (proxy b) ≡ true → Agreeing u cu b (completed net w)
+    pub settled-true : cu < room (netForm net) (length u) → completed net w (proxy b) ≡ true → Agreeing (netForm net) u cu b (completed net w)
     unfolding val
     settled-true h p = kept-agreeing h (q .noted .under (omega (tests, sym proxy-is ∙ p)))
 
-    pub settled-false : co < room o → completed net w (proxy b) ≡ false → Agreeing o co b (completed net w)
+    pub settled-false : co < room (netForm net) (length o) → completed net w (proxy b) ≡ false → Agreeing (netForm net) o co b (completed net w)
     unfolding val
     settled-false h p = kept-agreeing h (q .noted .over (omega (tests, q .told .some, q .told .forced .low, sym proxy-is ∙ p)))
 
   -- Law 3. The candidate w gives the body the target's truth, and each child's value is known. Then L' holds of the candidate, as long as the tables
   -- have room. (A child that the body's value does not need is not checked, and may have no record.)
-  pub found : {m : ℕ} {u : List ℕ} {cu : ℕ} {o : List ℕ} {co a : ℕ} {t : Bool} → cu < room u → co < room o → truth (formulaAt net a) (bit w) ≡ t
+  pub found : {m : ℕ} {u : List ℕ} {cu : ℕ} {o : List ℕ} {co a : ℕ} {t : Bool} → cu < room (netForm net) (length u) → co < room (netForm net) (length o) → truth (formulaAt net a) (bit w) ≡ t
       → ((b : ℕ) → free (body net a) (proxy b) ≡ true → Settled net m w u cu o co b) → L′ net u cu o co a t (completed net w)
   found {a = a} h l e f = record {
     holds = completed-body a ∙ e;

@@ -12,7 +12,7 @@ use Rattle.words.specs.Mask.{none-sub}
 use Rattle.formula.specs.Assignment.{Assignment}
 use Rattle.formula.specs.Formula.{truth}
 use Rattle.formula.specs.Ask.{freeMask, bit-free, ask, ask-some, ask-never, Entries}
-use Rattle.sheet.specs.Frames.{kind}
+use Rattle.sheet.specs.Fields.{Sheet, narrow, kind}
 use Rattle.sheet.specs.Rules.{binds}
 use Rattle.sheet.specs.Accepted.{ordered-bounded}
 use Rattle.records.specs.Both.{tables-none}
@@ -46,7 +46,7 @@ judged-true {cs} {r} e f = record {
 }
 
 -- a checked sheet can be asked over its net: nothing is entered, and there is no record
-pub ready-none : {s net : List ℕ} {free : ℕ} (under over : List ℕ) → Checked s free → NetOf s net → Ready s net 0 0 under 0 over 0
+pub ready-none : {s : Sheet} {net : List ℕ} {free : ℕ} (under over : List ℕ) → Checked s free → NetOf s net → Ready s net 0 0 under 0 over 0
 ready-none {net = net} under over k n = record {
   checked = checked-net k n;
   net-of = n;
@@ -59,36 +59,39 @@ module _ {codes frames : List ℕ} (m : Matrix codes frames) where
   abbrev clauses : List Clause
   clauses = clausesOf codes
 
+  abbrev matrix : Sheet
+  matrix = narrow (sheetBytes (matrixKinds clauses))
+
   of-sheet : SheetOfMatrix clauses
   of-sheet = matrix-sheet clauses (m .some-clause) (m .below) (m .few)
 
-  entries : Entries 32 (root (sheetBytes (matrixKinds clauses))) 0 0
+  entries : Entries 32 (root matrix) 0 0
   entries = record {
-    bounded = ordered-bounded 32 (kind (sheetBytes (matrixKinds clauses))) (of-sheet .ordered) (last (sheetBytes (matrixKinds clauses)));
-    opened = none-sub (freeMask 32 (root (sheetBytes (matrixKinds clauses))));
+    bounded = ordered-bounded 32 (kind matrix) (of-sheet .ordered) (last matrix);
+    opened = none-sub (freeMask 32 (root matrix));
     valued = none-sub 0;
   }
 
   -- its frames make a checked sheet: none binds a variable
-  pub matrix-checked : {all : ℕ} → bit all ≡ occurs clauses → Checked frames all
+  pub matrix-checked : {all : ℕ} → bit all ≡ occurs clauses → Checked (narrow frames) all
   matrix-checked {all} e =
-      subst (λ (s : List ℕ). Checked s all) (sym (m .frames-are))
+      subst (λ (s : List ℕ). Checked (narrow s) all) (sym (m .frames-are))
       (record {
         ordered = of-sheet .ordered;
         some = of-sheet .least;
         few = of-sheet .most;
         opens = ext all _ (λ k. ap (λ (p : ℕ → Bool). p k) e ∙ sym (of-sheet .free-is k) ∙ sym (bit-free (entries .bounded) k));
-        once = λ j k v h i t u. clash (binds (kind (sheetBytes (matrixKinds clauses)) j) v) t (of-sheet .unbound j v h);
-        closed = λ k v h t. clash (binds (kind (sheetBytes (matrixKinds clauses)) k) v) t (of-sheet .unbound k v h);
+        once = λ j k v h i t u. clash (binds (kind matrix j) v) t (of-sheet .unbound j v h);
+        closed = λ k v h t. clash (binds (kind matrix k) v) t (of-sheet .unbound k v h);
       })
 
   -- false under some assignment: the answer tells whether it is true under another
-  pub judged-asked : {holds : Bool} {word : ℕ} → allOpposed clauses ≡ false → Same (ask 32 (root frames) 0 0) holds word → Judged clauses holds
+  pub judged-asked : {holds : Bool} {word : ℕ} → allOpposed clauses ≡ false → Same (ask 32 (root (narrow frames)) 0 0) holds word → Judged clauses holds
   judged-asked {holds} {word} e a =
-      let h : holds ≡ ask 32 (root (sheetBytes (matrixKinds clauses))) 0 0 .holds = a .holds ∙ ap (λ (s : List ℕ). ask 32 (root s) 0 0 .holds) (m .frames-are) in
+      let h : holds ≡ ask 32 (root matrix) 0 0 .holds = a .holds ∙ ap (λ (s : List ℕ). ask 32 (root (narrow s)) 0 0 .holds) (m .frames-are) in
       record {
         is-contingent = λ t.
-            let f = ask-some 32 (root (sheetBytes (matrixKinds clauses))) 0 0 (sym h ∙ t) in
+            let f = ask-some 32 (root matrix) 0 0 (sym h ∙ t) in
             record { makes-true = (f .0, sym (of-sheet .truth-is (f .0)) ∙ f .2); makes-false = unopposed-false clauses e };
         is-settled = λ t c.
             let σ = c .makes-true .0 in

@@ -6,9 +6,8 @@ use mathlib.Core.Logic.{_⊎_}
 use mathlib.Core.Path.{_≡_}
 use lib.ListN.{length, drop}
 use Rattle.sheet.specs.Refusal as Number
-use Rattle.sheet.specs.Rules.{variables, mostFrames}
 use Rattle.prenex.specs.Question.{Question, Proper, Contingent}
-use Rattle.prenex.specs.Kinds.{kinds, sheetOf}
+use Rattle.prenex.specs.Kinds.{variables, mostFrames, kinds, sheetOf}
 use Rattle.prenex.specs.Code.{codesOf}
 use Rattle.prenex.specs.CodeLaws.{Words}
 use Rattle.dimacs.specs.Page.{page, Written, WellFormed}

@@ -1,3 +1,5 @@
+pub mod Layout
+pub mod Stores
 pub mod Table
 pub mod Put
 pub mod Both

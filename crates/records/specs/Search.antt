@@ -6,6 +6,7 @@ use mathlib.Core.List.{List}
 use Prim.Native.Nat.{ℕ, _<_}
 use Rattle.records.specs.declared.Found.{Found}
 use Rattle.records.specs.declared.Found.the-variants.{At, Nothing}
+use Rattle.form.specs.declared.Form.{Form}
 use Rattle.records.specs.Table.{matches, Kept}
 
 -- none of the numbers below n passes p
@@ -19,13 +20,13 @@ pub record FirstBelow (p : ℕ → Bool) (count j : ℕ) : Type 0 where
   pub none-before : NoneBelow p j
 
 -- the first of the counted records that matches
-abbrev pub Finds : List ℕ → ℕ → ℕ → ℕ → ℕ → Found → Type 0
-Finds t count frame assigned setting (At j) = FirstBelow (matches t frame assigned setting) count j
-Finds t count frame assigned setting Nothing = NoneBelow (matches t frame assigned setting) count
+abbrev pub Finds : Form → List ℕ → ℕ → ℕ → ℕ → ℕ → Found → Type 0
+Finds F t count frame assigned setting (At j) = FirstBelow (matches F t frame assigned setting) count j
+Finds F t count frame assigned setting Nothing = NoneBelow (matches F t frame assigned setting) count
 
 -- what is found is kept
-pub first-kept : (t : List ℕ) (count frame assigned setting : ℕ) {j : ℕ} → FirstBelow (matches t frame assigned setting) count j → Kept t count frame assigned setting
-first-kept t count frame assigned setting {j} f = inr (j, f .counted, f .hit)
+pub first-kept : (F : Form) (t : List ℕ) (count frame assigned setting : ℕ) {j : ℕ} → FirstBelow (matches F t frame assigned setting) count j → Kept F t count frame assigned setting
+first-kept F t count frame assigned setting {j} f = inr (j, f .counted, f .hit)
 
 -- two tests with the same outcomes
 pub first-same : {p : ℕ → Bool} {count j : ℕ} (q : ℕ → Bool) → ((i : ℕ) → p i ≡ q i) → FirstBelow p count j → FirstBelow q count j

@@ -1,16 +1,24 @@
-// Tables of records of three numbers each: a frame, a mask of variables, their values.
+// Tables of records, each a frame, a mask of variables and their values: of three numbers for narrow sheets, of five for wide ones.
+mod layout;
+
 ghost use mathlib.Core.Path.{_≡_};
-ghost use Prim.Native.Nat.{_+_, _*_, _<_, _≤_};
+ghost use Prim.Native.Nat.{_<_, _≤_};
 ghost use lib.ListN.{length};
 ghost use Rattle.words.specs.Mask.{agree};
+ghost use Rattle.form.specs.Form as Sizes;
+ghost use Rattle.form.specs.Form.{recordStart, wordEnd};
 ghost use Rattle.records.specs.Table.{matches, maskAt};
 ghost use Rattle.records.specs.Put.{Put};
 ghost use Rattle.records.specs.Search.{Finds};
 ghost use Rattle.records.specs.Find.{hit, Part};
-use cube::Cube;
+use cube::Cube64;
+use form::Form;
+use layout::part_at;
+use layout::record_at;
+use layout::write;
 
 // The mask of every variable: in a setting each has a value.
-const EVERY: u32 = 4294967295;
+const EVERY: u64 = 18446744073709551615;
 
 // How many records of the under table count, and how many of the over table.
 pub struct Counts {
@@ -32,40 +40,45 @@ pub enum Hit {
 }
 
 // Whether a record's cube agrees with the setting. The maker would drop values outside the mask, with which nothing agrees.
-fn record_agrees(mask: u32, values: u32, setting: u32) -> bool
+fn record_agrees(mask: u64, values: u64, setting: u64) -> bool
     ensures { λ r. ⌜ r ≡ agree mask values setting ⌝ }
 {
-    if words::w32::inside(values, mask) {
-        return Cube::of(mask, values).agrees(setting);
+    if words::w64::inside(values, mask) {
+        return Cube64::of(mask, values).agrees(setting);
     }
     false
 }
 
 // Whether record j is one of this frame, assigns assigned variables only, and agrees with the setting.
-fn matches_at(table: &[u32], j: usize, frame: u32, assigned: u32, setting: u32) -> bool
-    requires { ⌜ j * 3 + 3 ≤ length (now table) ⌝ }
-    ensures { λ r. ⌜ r ≡ matches (now (table .entry)) frame assigned setting j ⌝ }
+fn matches_at(table: &[u32], form: Form, j: usize, frame: u32, assigned: u64, setting: u64) -> bool
+    requires { ⌜ j < Sizes.room form (length (now table)) ⌝ }
+    ensures { λ r. ⌜ r ≡ matches form (now (table .entry)) frame assigned setting j ⌝ }
 {
-    let p = j * 3;
-    if table[p] != frame {
+    let r = record_at(table, form, j);
+    if r.frame != frame {
         return false;
     }
-    let mask = table[p + 1];
-    let values = table[p + 2];
-    if words::w32::inside(mask, assigned) {
-        return record_agrees(mask, values, setting);
+    if words::w64::inside(r.mask, assigned) {
+        return record_agrees(r.mask, r.values, setting);
     }
     false
 }
 
 // The first of the counted records that matches (for the solver).
-pub fn search(table: &[u32], count: usize, frame: u32, assigned: u32, setting: u32) -> Found
-    requires { ⌜ count * 3 ≤ length (now table) ⌝ }
-    ensures { λ r. ⌜ Finds (now (table .entry)) count frame assigned setting r ⌝ }
+pub fn search(
+    table: &[u32],
+    form: Form,
+    count: usize,
+    frame: u32,
+    assigned: u64,
+    setting: u64,
+) -> Found
+    requires { ⌜ recordStart form count ≤ length (now table) ⌝ }
+    ensures { λ r. ⌜ Finds form (now (table .entry)) count frame assigned setting r ⌝ }
 {
     let mut j: usize = 0;
     while j < count {
-        if matches_at(table, j, frame, assigned, setting) {
+        if matches_at(table, form, j, frame, assigned, setting) {
             return Found::At(j);
         }
         j += 1;
@@ -74,57 +87,74 @@ pub fn search(table: &[u32], count: usize, frame: u32, assigned: u32, setting: u
 }
 
 // The mask of a record (for the solver).
-pub fn mask_of(table: &[u32], at: usize) -> u32
-    requires { ⌜ at * 3 + 1 < length (now table) ⌝ }
-    ensures { λ r. ⌜ r ≡ maskAt (now (table .entry)) at ⌝ }
+pub fn mask_of(table: &[u32], form: Form, at: usize) -> u64
+    requires { ⌜ at < Sizes.room form (length (now table)) ⌝ }
+    ensures { λ r. ⌜ r ≡ maskAt form (now (table .entry)) at ⌝ }
 {
-    table[at * 3 + 1]
+    let r = record_at(table, form, at);
+    r.mask
 }
 
 // Puts a record behind the counted ones and tells how many there are then: a full table takes no more (for the solver).
-pub fn put(table: &mut [u32], count: usize, frame: u32, mask: u32, values: u32) -> usize
-    requires { ⌜ count * 3 ≤ length (now table) ⌝ }
-    ensures { λ r. ⌜ Put (now (table .entry)) count (now (table .exit)) r frame mask values ⌝ }
+pub fn put(table: &mut [u32], form: Form, count: usize, frame: u32, mask: u64, values: u64) -> usize
+    requires { ⌜ (recordStart form count ≤ length (now table)) × (mask < wordEnd form) × (values < wordEnd form) ⌝ }
+    ensures { λ r. ⌜ Put form (now (table .entry)) count (now (table .exit)) r frame mask values ⌝ }
 {
-    if count < table.len() / 3 {
-        let p = count * 3;
-        table[p] = frame;
-        table[p + 1] = mask;
-        table[p + 2] = values;
-        count + 1
-    } else {
-        count
+    if count < form::room(form, table.len()) {
+        write(table, form, count, frame, mask, values);
+        return count + 1;
     }
+    count
 }
 
 // In which table a record of the frame agrees with the setting: the under table first. In neither, if a count exceeds its table's room.
 fn locate(
+    form: Form,
     under: &[u32],
     under_count: usize,
     over: &[u32],
     over_count: usize,
     frame: u32,
-    setting: u32,
+    setting: u64,
 ) -> Hit
-    ensures { λ r. ⌜ r ≡ hit (now (under .entry)) «under_count» (now (over .entry)) «over_count» frame setting ⌝ }
+    ensures { λ r. ⌜ r ≡ hit form (now (under .entry)) «under_count» (now (over .entry)) «over_count» frame setting ⌝ }
 {
-    if under_count > under.len() / 3 {
+    if under_count > form::room(form, under.len()) {
         return Hit::Neither;
     }
-    if over_count > over.len() / 3 {
+    if over_count > form::room(form, over.len()) {
         return Hit::Neither;
     }
-    match search(under, under_count, frame, EVERY, setting) {
+    match search(under, form, under_count, frame, EVERY, setting) {
         Found::At(i) => Hit::Under(i),
-        Found::Nothing => match search(over, over_count, frame, EVERY, setting) {
+        Found::Nothing => match search(over, form, over_count, frame, EVERY, setting) {
             Found::At(j) => Hit::Over(j),
             Found::Nothing => Hit::Neither,
         },
     }
 }
 
-// The record finder: the three numbers of the first record of the frame that agrees with the setting, a part of the under
+// The record finder: the numbers of the first record of the frame that agrees with the setting, a part of the under
 // table or else of the over table; the empty part at the under table's start, if there is none or a count exceeds its table's room.
+fn find_form<'a>(
+    form: Form,
+    under: &'a [u32],
+    under_count: usize,
+    over: &'a [u32],
+    over_count: usize,
+    frame: u32,
+    setting: u64,
+) -> &'a [u32]
+    ensures { λ r. ⌜ Part form (under .entry) (over .entry) r (hit form (now (under .entry)) «under_count» (now (over .entry)) «over_count» frame setting) ⌝ }
+{
+    match locate(form, under, under_count, over, over_count, frame, setting) {
+        Hit::Under(i) => part_at(under, form, i),
+        Hit::Over(i) => part_at(over, form, i),
+        Hit::Neither => &under[0..0],
+    }
+}
+
+// The record finder in tables of a narrow sheet: a part of three numbers, or none.
 pub fn find<'a>(
     under: &'a [u32],
     under_count: usize,
@@ -133,11 +163,37 @@ pub fn find<'a>(
     frame: u32,
     setting: u32,
 ) -> &'a [u32]
-    ensures { λ r. ⌜ Part (under .entry) (over .entry) r (hit (now (under .entry)) «under_count» (now (over .entry)) «over_count» frame setting) ⌝ }
+    ensures { λ r. ⌜ Part Form.Narrow (under .entry) (over .entry) r (hit Form.Narrow (now (under .entry)) «under_count» (now (over .entry)) «over_count» frame setting) ⌝ }
 {
-    match locate(under, under_count, over, over_count, frame, setting) {
-        Hit::Under(i) => &under[i * 3..i * 3 + 3],
-        Hit::Over(i) => &over[i * 3..i * 3 + 3],
-        Hit::Neither => &under[0..0],
-    }
+    find_form(
+        Form::Narrow,
+        under,
+        under_count,
+        over,
+        over_count,
+        frame,
+        setting as u64,
+    )
+}
+
+// In tables of a wide sheet: a part of five numbers, or none.
+pub fn find_wide<'a>(
+    under: &'a [u32],
+    under_count: usize,
+    over: &'a [u32],
+    over_count: usize,
+    frame: u32,
+    setting: u64,
+) -> &'a [u32]
+    ensures { λ r. ⌜ Part Form.Wide (under .entry) (over .entry) r (hit Form.Wide (now (under .entry)) «under_count» (now (over .entry)) «over_count» frame setting) ⌝ }
+{
+    find_form(
+        Form::Wide,
+        under,
+        under_count,
+        over,
+        over_count,
+        frame,
+        setting,
+    )
 }

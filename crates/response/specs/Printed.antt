@@ -1,35 +1,48 @@
 -- What is printed for a text, and the contract of `respond` for all inputs. Assumes nothing.
-use Prim.Native.Nat.{ℕ, _*_, _/_, _≤_, _<_}
+use Prim.Native.Nat.{ℕ, _/_, _%_, _≤_, _<_}
 use mathlib.Core.Bool.{cond}
-use mathlib.Core.List.{List}
+use mathlib.Core.List.{List, [], _∷_}
 use mathlib.Core.Path.{_≡_}
 use lib.Dec.{eqb}
 use lib.ListN.{length, take}
 use Rattle.sheet.specs.Cause.{Refusal}
-use Rattle.session.specs.Model.{answerLength, lines, answers}
+use Rattle.form.specs.Form.{answerBytes, answerStart}
+use Rattle.form.specs.declared.Form.{Form}
+use Rattle.form.specs.declared.Form.the-variants.{Narrow, Wide}
+use Rattle.sheet.specs.Fields.{Sheet, sheetOf}
+use Rattle.session.specs.Model.{lines, answers}
 use Rattle.run.specs.Run.{refusal, book}
+use Rattle.text.specs.Hex.{hexLine}
 use Rattle.text.specs.Reading.{Reading, reading, writtenOver}
-use Rattle.text.specs.Answer.{answerSize, answerLine, answerLines}
+use Rattle.text.specs.Answer.{answerLines}
 
 -- the lines of all answers
-abbrev pub allLines : List ℕ → List ℕ
-allLines bytes = answerLines (length bytes / answerSize) bytes
+abbrev pub allLines : Form → List ℕ → List ℕ
+allLines F bytes = answerLines F (length bytes / answerBytes F) bytes
+
+-- a refusal: its number, its place in one byte and four zero bytes; of a wide text its place in two, the highest first, and seven
+abbrev pub refusalBytes : Form → ℕ → ℕ → List ℕ
+refusalBytes Narrow number place = number ∷ place ∷ 0 ∷ 0 ∷ 0 ∷ 0 ∷ []
+refusalBytes Wide number place = number ∷ place / 256 ∷ place % 256 ∷ 0 ∷ 0 ∷ 0 ∷ 0 ∷ 0 ∷ 0 ∷ 0 ∷ []
+
+unfoldable pub refusalLine : Form → ℕ → ℕ → List ℕ
+refusalLine F number place = hexLine (refusalBytes F number place)
 
 -- the refusal of a run that has room for its answers
-abbrev pub refusalOf : List ℕ → List ℕ → Refusal
-refusalOf sheet script = refusal sheet script (answerLength * lines script)
+abbrev pub refusalOf : Sheet → List ℕ → Refusal
+refusalOf sheet script = refusal sheet script (answerStart (sheet .form) (lines script))
 
--- a refusal's number and place in one line, or a line for each answer
-abbrev pub linesBy : Refusal → List ℕ → List ℕ
-linesBy r bytes = cond (eqb (r .number) 0) (allLines bytes) (answerLine (r .number) (r .place) 0)
+-- a refusal's line, or a line for each answer
+abbrev pub linesBy : Form → Refusal → List ℕ → List ℕ
+linesBy F r bytes = cond (eqb (r .number) 0) (allLines F bytes) (refusalLine F (r .number) (r .place))
 
 -- for a sheet and a script: the answers are the reference model's
-unfoldable pub printedRun : List ℕ → List ℕ → List ℕ
-printedRun sheet script = linesBy (refusalOf sheet script) (answers (book sheet) script)
+unfoldable pub printedRun : Sheet → List ℕ → List ℕ
+printedRun sheet script = linesBy (sheet .form) (refusalOf sheet script) (answers (sheet .form) (book sheet) script)
 
--- for what a text reads to: the refusal's number in one line, with place 0, or what the sheet and the script give
+-- for what a text reads to: the refusal's line, with place 0, or what the sheet and the script give
 abbrev pub printedFor : Reading → List ℕ
-printedFor k = cond (eqb (k .refusal) 0) (printedRun (k .sheet) (k .script)) (answerLine (k .refusal) 0 0)
+printedFor k = cond (eqb (k .refusal) 0) (printedRun (sheetOf (k .form) (k .sheet)) (k .script)) (refusalLine (k .form) (k .refusal) 0)
 
 unfoldable pub printed : List ℕ → List ℕ
 printed text = printedFor (reading text)

@@ -1,9 +1,11 @@
 -- One call of `run`: what was lent to it, and what it left and told. Assumes nothing.
-use Prim.Native.Nat.{ℕ, _*_, _≤_}
+use Prim.Native.Nat.{ℕ, _≤_}
 use mathlib.Core.Path.{_≡_}
 use mathlib.Core.List.{List}
 use lib.ListN.{length}
-use Rattle.session.specs.Model.{answerLength, lines}
+use Rattle.form.specs.Form.{answerStart}
+use Rattle.sheet.specs.Fields.{Sheet}
+use Rattle.session.specs.Model.{lines}
 use Rattle.run.specs.Run.{Run}
 
 -- the answer buffer and the two tables, at entry and at exit, and the four numbers that are told
@@ -26,10 +28,10 @@ pub record Lent (o : Call) (ans under over : List ℕ) : Type 0 where
   pub over-is : o .over ≡ over
 
 -- the call meets run's contract over this sheet and this script
-abbrev pub Meets : List ℕ → List ℕ → Call → Type 0
+abbrev pub Meets : Sheet → List ℕ → Call → Type 0
 Meets sheet script o = Run sheet script (o .ans) (o .under) (o .over) (o .ans') (o .under') (o .over') (o .number) (o .place) (o .cu) (o .co)
 
 -- and it was lent an answer buffer that is long enough
-pub record Ample (sheet script : List ℕ) (o : Call) : Type 0 where
+pub record Ample (sheet : Sheet) (script : List ℕ) (o : Call) : Type 0 where
   pub meets : Meets sheet script o
-  pub room : answerLength * lines script ≤ length (o .ans)
+  pub room : answerStart (sheet .form) (lines script) ≤ length (o .ans)

@@ -1,5 +1,5 @@
 -- The certificate, conditions 1 and 2: what every call that meets run's contract does. Each theorem stands under its sentence. Assumes nothing.
-use Prim.Native.Nat.{ℕ, _+_, _*_, _≤_, _<_}
+use Prim.Native.Nat.{ℕ, _+_, _≤_, _<_}
 use native.Mathlib.Omega.{arith}
 use mathlib.Core.Path.{_≡_, sym, ap, _∙_}
 use mathlib.Core.Bool.{false}
@@ -10,9 +10,12 @@ use lib.Seq.{take-append-le, drop-append-le, drop-at}
 use Rattle.formula.specs.Ask.{Verdict, ask}
 use Rattle.formula.specs.Why.{why}
 use Rattle.sheet.specs.Cause.{Refusal, Foremost}
-use Rattle.sheet.specs.Rules.{variables}
+use Rattle.form.specs.Form as Sizes
+use Rattle.form.specs.Form.{answerStart, answer-before}
+use Rattle.form.specs.declared.Form.{Form}
+use Rattle.sheet.specs.Fields.{Sheet, variables}
 use Rattle.solver.specs.Contract.{root, Tables}
-use Rattle.session.specs.Model.{enteredMask, enteredValues, Reply, answerLength, answerBytes, refused, judged, TAKE-BACK, WHY, lines, lineAt, answerAt, answers, meaning}
+use Rattle.session.specs.Model.{enteredMask, enteredValues, Reply, answerBytes, refused, judged, TAKE-BACK, WHY, lines, lineAt, answerAt, answers, meaning}
 use Rattle.session.specs.Line.{refused-same, refused-answer}
 use Rattle.session.specs.Kinds.{ask-taken, why-taken}
 use Rattle.session.specs.Script.{after-next, length-answers, answer-bytes}
@@ -24,14 +27,18 @@ use Rattle.run.specs.Accept.{Proper, number-proper, proper-accepted, ref
 use Rattle.run.specs.Before.{before-entered}
 use Rattle.run.specs.Verdicts.{Decides, Reason, ask-decides, why-reason}
 
--- the six bytes that a call leaves for line i
-abbrev pub lineBytes : Call → ℕ → List ℕ
-lineBytes o i = take answerLength (drop (answerLength * i) (o .ans'))
+-- the bytes that a call over a sheet of the form leaves for line i: six, or ten
+abbrev pub lineBytes : Form → Call → ℕ → List ℕ
+lineBytes F o i = take (Sizes.answerBytes F) (drop (answerStart F i) (o .ans'))
 
-module _ (sheet script : List ℕ) (o : Call) (R : Meets sheet script o) where
+module _ (sheet : Sheet) (script : List ℕ) (o : Call) (R : Meets sheet script o) where
+  -- the form of the sheet
+  abbrev F : Form
+  F = sheet .form
+
   -- ---- condition 1
 
-  -- A run is accepted exactly if the sheet keeps document 01's rules, the script is at most 1,000 whole lines, and there is room for six bytes a line.
+  -- A run is accepted exactly if the sheet keeps document 01's rules, the script is at most 1,000 whole lines, and there is room for an answer a line.
   pub accepted-exactly : (o .number ≡ 0) ↔ Proper sheet script (length (o .ans))
   accepted-exactly = (
     λ e. number-proper sheet script (length (o .ans)) (sym (R .answered .number-is) ∙ e),
@@ -41,9 +48,9 @@ module _ (sheet script : List ℕ) (o : Call) (R : Meets sheet script o) where
   -- It is refused by a number at a place exactly if that cause holds there and none before it in document 01's order does.
   pub refused-exactly : (n k : ℕ) → 0 < n → ((o .number ≡ n) × (o .place ≡ k)) ↔ Foremost (causes sheet script (length (o .ans))) (record { number = n; place = k })
   refused-exactly n k h =
-      let F = refused-foremost sheet script (length (o .ans)) n k h in (
-        λ e. F .0 (both (sym (R .answered .number-is) ∙ e .0) (sym (R .answered .place-is) ∙ e .1)),
-        λ f. (R .answered .number-is ∙ ap (λ (r : Refusal). r .number) (F .1 f), R .answered .place-is ∙ ap (λ (r : Refusal). r .place) (F .1 f)),
+      let f = refused-foremost sheet script (length (o .ans)) n k h in (
+        λ e. f .0 (both (sym (R .answered .number-is) ∙ e .0) (sym (R .answered .place-is) ∙ e .1)),
+        λ c. (R .answered .number-is ∙ ap (λ (r : Refusal). r .number) (f .1 c), R .answered .place-is ∙ ap (λ (r : Refusal). r .place) (f .1 c)),
       )
     where
       both : refusal sheet script (length (o .ans)) .number ≡ n → refusal sheet script (length (o .ans)) .place ≡ k
@@ -59,20 +66,20 @@ module _ (sheet script : List ℕ) (o : Call) (R : Meets sheet script o) where
     kept = accepted-exactly .0 accepted
 
     -- An accepted run writes one answer for each line, the reference model's, from the start of the answer buffer.
-    pub one-answer : (i : ℕ) → i < lines script → lineBytes o i ≡ answerBytes (answerAt (book sheet) [] script i)
+    pub one-answer : (i : ℕ) → i < lines script → lineBytes F o i ≡ answerBytes F (answerAt (book sheet) [] script i)
     unfolding answers
     one-answer i h =
-        let x = answers (book sheet) script in
-        let z = drop (answerLength * lines script) (o .ans) in
-        let l : answerLength * i ≤ length x = omega (arith, length-answers (book sheet) script) in
-        let r : answerLength ≤ length (drop (answerLength * i) x) = rw (length-drop, length-answers) (omega arith) in
+        let x = answers F (book sheet) script in
+        let z = drop (answerStart F (lines script)) (o .ans) in
+        let l : answerStart F i ≤ length x = omega (arith, length-answers F (book sheet) script, answer-before F h) in
+        let r : Sizes.answerBytes F ≤ length (drop (answerStart F i) x) = rw (length-drop, length-answers) (omega (arith, answer-before F h)) in
         let e : o .ans' ≡ x ++ z = R .answered .written accepted in
-        rw (e, drop-append-le (answerLength * i) x z l, take-append-le answerLength (drop (answerLength * i) x) z r)
-        (answer-bytes (book sheet) [] script i (lines script) h)
+        rw (e, drop-append-le (answerStart F i) x z l, take-append-le (Sizes.answerBytes F) (drop (answerStart F i) x) z r)
+        (answer-bytes F (book sheet) [] script i (lines script) h)
 
     -- What stands behind the answers in the buffer is as at entry, and so is the buffer's length.
-    pub behind-untouched : drop (answerLength * lines script) (o .ans') ≡ drop (answerLength * lines script) (o .ans)
-    behind-untouched = rw (R .answered .written accepted) (drop-at (answers (book sheet) script) (drop (answerLength * lines script) (o .ans)) (answerLength * lines script) (length-answers (book sheet) script))
+    pub behind-untouched : drop (answerStart F (lines script)) (o .ans') ≡ drop (answerStart F (lines script)) (o .ans)
+    behind-untouched = rw (R .answered .written accepted) (drop-at (answers F (book sheet) script) (drop (answerStart F (lines script)) (o .ans)) (answerStart F (lines script)) (length-answers F (book sheet) script))
 
     pub same-length : length (o .ans') ≡ length (o .ans)
     same-length = rw (R .answered .written accepted, length-append, length-drop, length-answers) (omega (arith, kept .room))
@@ -81,24 +88,24 @@ module _ (sheet script : List ℕ) (o : Call) (R : Meets sheet script o) where
 
     -- At every ASK of the script that is not refused, with the entries that then stand: the verdict is yes exactly if some assignment that agrees with
     -- them makes the sheet's formula true, and the word is the smallest such word; on no it is 0.
-    pub asked-decided : (i : ℕ) → Asked sheet script i → (a : Verdict) × (lineBytes o i ≡ answerBytes (judged a)) × Decides (root sheet) (before sheet script i) a
+    pub asked-decided : (i : ℕ) → Asked sheet script i → (a : Verdict) × (lineBytes F o i ≡ answerBytes F (judged a)) × Decides (variables sheet) (root sheet) (before sheet script i) a
     unfolding answerAt lineAt meaning
     asked-decided i q =
         let es = before sheet script i in (
-          ask variables (root sheet) (enteredMask es) (enteredValues es),
-          one-answer i (q .line) ∙ ap (λ (r : Reply). answerBytes (r .answer)) (ask-taken (book sheet) es _ _ _ _ (q .taken) (q .kind)),
+          ask (variables sheet) (root sheet) (enteredMask es) (enteredValues es),
+          one-answer i (q .line) ∙ ap (λ (r : Reply). answerBytes F (r .answer)) (ask-taken (book sheet) es _ _ _ _ (q .taken) (q .kind)),
           ask-decides sheet es (kept .sheet-kept) (before-entered sheet script i),
         )
 
     -- At every WHY that is not refused: the verdict is that of an ASK there, the variables marked force it, and none of them is idle.
     pub reason-minimal : (i : ℕ) → Taken WHY sheet script i
-        → (a : Verdict) × (r : Verdict) × (lineBytes o i ≡ answerBytes (judged r)) × Decides (root sheet) (before sheet script i) a × Reason (root sheet) (before sheet script i) a r
+        → (a : Verdict) × (r : Verdict) × (lineBytes F o i ≡ answerBytes F (judged r)) × Decides (variables sheet) (root sheet) (before sheet script i) a × Reason (root sheet) (before sheet script i) a r
     unfolding answerAt lineAt meaning
     reason-minimal i q =
         let es = before sheet script i in (
-          ask variables (root sheet) (enteredMask es) (enteredValues es),
-          why variables (root sheet) (enteredMask es) (enteredValues es),
-          one-answer i (q .line) ∙ ap (λ (r : Reply). answerBytes (r .answer)) (why-taken (book sheet) es _ _ _ _ (q .taken) (q .kind)),
+          ask (variables sheet) (root sheet) (enteredMask es) (enteredValues es),
+          why (variables sheet) (root sheet) (enteredMask es) (enteredValues es),
+          one-answer i (q .line) ∙ ap (λ (r : Reply). answerBytes F (r .answer)) (why-taken (book sheet) es _ _ _ _ (q .taken) (q .kind)),
           ask-decides sheet es (kept .sheet-kept) (before-entered sheet script i),
           why-reason sheet es (kept .sheet-kept) (before-entered sheet script i),
         )
@@ -146,11 +153,11 @@ module _ (sheet script : List ℕ) (o : Call) (R : Meets sheet script o) where
     -- A refused line changes nothing: the entries and the records after it are those before it, and its answer is its number with V 0 and word 0.
     pub refused-line : (i : ℕ) → i < lines script → 0 < answerAt (book sheet) [] script i .number
         → (before sheet script (i + 1) ≡ before sheet script i) × (records (i + 1) ≡ records i)
-        × (lineBytes o i ≡ answerBytes (refused (answerAt (book sheet) [] script i .number)))
+        × (lineBytes F o i ≡ answerBytes F (refused (answerAt (book sheet) [] script i .number)))
     unfolding answerAt lineAt
     refused-line i l h =
         let es = before sheet script i in (
           after-next (book sheet) [] script i ∙ refused-same (book sheet) es _ _ _ _ h,
           R .recorded accepted .each i (omega arith) .refused (omega arith),
-          one-answer i l ∙ ap answerBytes (refused-answer (book sheet) es _ _ _ _ h),
+          one-answer i l ∙ ap (answerBytes F) (refused-answer (book sheet) es _ _ _ _ h),
         )

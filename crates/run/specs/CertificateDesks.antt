@@ -4,15 +4,21 @@ use mathlib.Core.Path.{_≡_, refl, sym, ap, _∙_}
 use mathlib.Core.Bool.{false}
 use mathlib.Core.List.{List, []}
 use lib.ListN.{length, getD}
+use Rattle.form.specs.declared.Form.{Form}
+use Rattle.sheet.specs.Fields.{Sheet}
 use Rattle.sheet.specs.Cause.{Refusal}
 use Rattle.session.specs.Model.{answerBytes, lines, answerAt, standing}
 use Rattle.session.specs.Entries.{none-entered}
-use Rattle.session.specs.Desks.{DesksAlone, withoutDesks, tellsEntry, SameButDesk, same-bytes, bytes-but-fifth, desks-after, desks-answer}
+use Rattle.session.specs.Desks.{DesksAlone, withoutDesks, tellsEntry, SameButDesk, deskByte, same-bytes, bytes-but-desk, desks-after, desks-answer}
 use Rattle.run.specs.Run.{scriptCauses, roomCauses, refusal, book, before, kindAt}
 use Rattle.run.specs.Call.{Call, Meets}
 use Rattle.run.specs.Certificate.{lineBytes, one-answer}
 
-module _ (sheet a b : List ℕ) (D : DesksAlone a b) where
+module _ (sheet : Sheet) (a b : List ℕ) (D : DesksAlone a b) where
+  -- the form of the sheet
+  abbrev F : Form
+  F = sheet .form
+
   -- Before each line the same variables stand with the same values, in the same order.
   pub desks-before : (i : ℕ) → withoutDesks (before sheet a i) ≡ withoutDesks (before sheet b i)
   desks-before = desks-after (book sheet) a b D [] [] (none-entered (book sheet)) (none-entered (book sheet)) refl
@@ -39,16 +45,17 @@ module _ (sheet a b : List ℕ) (D : DesksAlone a b) where
         )
 
     module _ (first : A .number ≡ 0) (second : B .number ≡ 0) (i : ℕ) (here : i < lines a) where
-      bytesA : lineBytes A i ≡ answerBytes (answerAt (book sheet) [] a i)
+      bytesA : lineBytes F A i ≡ answerBytes F (answerAt (book sheet) [] a i)
       bytesA = one-answer sheet a A R first i here
 
-      bytesB : lineBytes B i ≡ answerBytes (answerAt (book sheet) [] b i)
+      bytesB : lineBytes F B i ≡ answerBytes F (answerAt (book sheet) [] b i)
       bytesB = one-answer sheet b B S second i (rw (← D .long) here)
 
       -- Accepted, they answer each line but TAKE BACK and READ by the same bytes: the same verdicts, words of ASK, and reasons.
-      pub desks-judged : tellsEntry (kindAt a i) ≡ false → lineBytes A i ≡ lineBytes B i
-      desks-judged t = bytesA ∙ same-bytes _ _ _ (answer i) t ∙ sym bytesB
+      pub desks-judged : tellsEntry (kindAt a i) ≡ false → lineBytes F A i ≡ lineBytes F B i
+      desks-judged t = bytesA ∙ same-bytes _ _ _ (answer i) F t ∙ sym bytesB
 
-      -- And every line, TAKE BACK and READ too, by the same bytes but for the fifth, where the desk is told: the same refusal, variable and value.
-      pub desks-told : (j : ℕ) → (j ≡ 4 → ⊥) → getD (lineBytes A i) j 0 ≡ getD (lineBytes B i) j 0
-      desks-told j f = rw (bytesA, bytesB) (bytes-but-fifth _ _ _ (answer i) j f)
+      -- And every line, TAKE BACK and READ too, by the same bytes but for the last but one, where the desk is told: the same refusal,
+      -- variable and value.
+      pub desks-told : (j : ℕ) → (j ≡ deskByte F → ⊥) → getD (lineBytes F A i) j 0 ≡ getD (lineBytes F B i) j 0
+      desks-told j f = rw (bytesA, bytesB) (bytes-but-desk _ _ _ (answer i) F j f)

@@ -3,6 +3,7 @@ use Prim.Native.Nat.{ℕ, _<_}
 use mathlib.Core.Path.{_≡_}
 use mathlib.Core.Logic.{_↔_, ⊎-elim}
 use mathlib.Core.List.{List}
+use Rattle.sheet.specs.Fields.{Sheet}
 use Rattle.sheet.specs.Keeps.{Keeps}
 use Rattle.session.specs.Model.{standing}
 use Rattle.run.specs.Run.{book}
@@ -11,10 +12,10 @@ use Rattle.run.specs.Exists.{some-call}
 use Rattle.run.specs.Same.{Earlier, Alike, SomeAlike, ReadApart, same-alike, same-or-read, alike-same, alike-some}
 
 -- For every sheet, script, answer buffer and tables some output meets run's contract.
-pub every-input : (sheet script ans under over : List ℕ) → (o : Call) × Meets sheet script o × Lent o ans under over
+pub every-input : (sheet : Sheet) (script ans under over : List ℕ) → (o : Call) × Meets sheet script o × Lent o ans under over
 every-input = some-call
 
-module _ (sheet a b : List ℕ) (K : Keeps sheet) (A : Earlier a) (B : Earlier b) where
+module _ (sheet : Sheet) (a b : List ℕ) (K : Keeps sheet) (A : Earlier a) (B : Earlier b) where
   -- Two scripts of at most 900 lines over a sheet that keeps the rules. (1) If they leave the same entries standing, then all further scripts of at most
   -- 100 lines get the same answers, byte for byte, in all runs of the one script and then the further one, and of the other and then the further one,
   -- whatever buffers and tables these are lent. (2) If for every further script some two such runs give it the same answers, then the two scripts leave

@@ -2,6 +2,7 @@
 use Prim.Native.Nat.{ℕ, _<_}
 use mathlib.Core.Path.{_≡_, sym, ap, _∙_}
 use mathlib.Core.List.{List, []}
+use Rattle.sheet.specs.Fields.{Sheet}
 use Rattle.session.specs.declared.Session.{Session}
 use Rattle.session.specs.Model.{enteredMask, enteredValues, lineAt, answerAt}
 use Rattle.session.specs.Line.{refused-same}
@@ -10,7 +11,7 @@ use Rattle.session.specs.Sound.{standingOf}
 use Rattle.run.specs.Run.{book, before}
 use Rattle.run.specs.Course.{Steps, Course, course-stands, course-words}
 
-module _ (sheet script : List ℕ) (free : ℕ) where
+module _ (sheet : Sheet) (script : List ℕ) (free : ℕ) where
   -- In a run from no entry, after every line, refused ones included: the mask and the values that the session keeps are what its list of entries gives,
   -- and that list is the reference model's.
   pub entered-words : (i : ℕ) (x : Session) → Course sheet script free i x

@@ -1,11 +1,16 @@
 -- The check of a run in parts: an earlier list of causes refuses, or the later one decides. Assumes nothing.
-use Prim.Native.Nat.{ℕ}
+use Prim.Native.Nat.{ℕ, _≤_, _<_}
 use native.Mathlib.Omega.{arith}
 use mathlib.Core.Path.{_≡_, refl, sym, ap, _∙_}
-use mathlib.Core.Bool.{false}
+use mathlib.Core.Bool.{true, false}
 use mathlib.Core.List.{List, [], _∷_, _++_, append-assoc}
+use lib.Dec.{ltb}
+use borrow.Author.Tests.{le-ltb, ltb-false}
 use Rattle.words.specs.Logic.{by-bool}
+use Rattle.form.specs.Form.{answersIn, answerStart, answers-fit, fit-answers}
+use Rattle.form.specs.declared.Form.{Form}
 use Rattle.sheet.specs.Cause.{Cause, Refusal, first, someHolds, Numbered, some-append, first-earlier, first-later, none-first, first-none}
+use Rattle.sheet.specs.Fields.{Sheet}
 use Rattle.sheet.specs.Rules.{lengthCauses, sizeCauses, frameCauses}
 use Rattle.sheet.specs.RuleLaws.{size-numbered}
 use Rattle.sheet.specs.Check.{Checks}
@@ -22,7 +27,7 @@ unfolding first
 first-at-zero [] z = refl
 first-at-zero (c ∷ cs) z = by-bool (c .holds) (λ e. rw e (z .0)) (λ e. rw e (first-at-zero cs (z .1)))
 
-module _ (cs ds : List Cause) (s : List ℕ) where
+module _ (cs ds : List Cause) (s : Sheet) where
   -- a cause of the earlier list holds
   earlier-checks : AtZero cs → {number : ℕ} → number ≡ first cs .number → (number ≡ 0 → ⊥) → Checks (cs ++ ds) s number 0 0
   earlier-checks z {number} e f =
@@ -45,12 +50,24 @@ module _ (cs ds : List Cause) (s : List ℕ) where
         free-is = c .free-is ∙ rw (some-append cs ds, h);
       }
 
-module _ (sheet script : List ℕ) (room : ℕ) where
+-- there is room for n answers exactly if so many fit
+module _ (F : Form) (n bytes : ℕ) {fit : ℕ} (e : fit ≡ answersIn F bytes) where
+  pub room-short : fit < n → ltb bytes (answerStart F n) ≡ true
+  room-short h = by-bool (ltb bytes (answerStart F n)) (λ t. t) (λ t. absurd (omega (arith, h, fit-answers F (ltb-false bytes (answerStart F n) t))))
+
+  pub room-enough : n ≤ fit → ltb bytes (answerStart F n) ≡ false
+  room-enough h = le-ltb bytes (answerStart F n) (answers-fit F (omega arith))
+
+module _ (sheet : Sheet) (script : List ℕ) (room : ℕ) where
+  -- of the script and the answer buffer
+  abbrev between : List Cause
+  between = scriptCauses script ++ roomCauses (sheet .form) script room
+
   size-at-zero : AtZero (sizeCauses sheet)
   unfolding lengthCauses
   size-at-zero = (refl, (refl, tt))
 
-  script-at-zero : AtZero (scriptCauses script ++ roomCauses script room)
+  script-at-zero : AtZero between
   unfolding scriptCauses roomCauses
   script-at-zero = (refl, (refl, (refl, tt)))
 
@@ -63,16 +80,16 @@ module _ (sheet script : List ℕ) (room : ℕ) where
     pub size-none : someHolds (sizeCauses sheet) ≡ false
     size-none = first-none (sizeCauses sheet) (size-numbered sheet) (sym sized ∙ none)
 
-    after-size : {number place free : ℕ} → Checks ((scriptCauses script ++ roomCauses script room) ++ frameCauses sheet) sheet number place free
+    after-size : {number place free : ℕ} → Checks (between ++ frameCauses sheet) sheet number place free
         → Checks (causes sheet script room) sheet number place free
     after-size c = later-checks (sizeCauses sheet) _ sheet (size-numbered sheet) (sym sized ∙ none) (rw append-assoc at c)
 
     -- the script or the room refuses
-    pub script-checks : {number : ℕ} → number ≡ first (scriptCauses script ++ roomCauses script room) .number → (number ≡ 0 → ⊥)
+    pub script-checks : {number : ℕ} → number ≡ first between .number → (number ≡ 0 → ⊥)
         → Checks (causes sheet script room) sheet number 0 0
-    script-checks e f = after-size (earlier-checks (scriptCauses script ++ roomCauses script room) (frameCauses sheet) sheet script-at-zero e f)
+    script-checks e f = after-size (earlier-checks between (frameCauses sheet) sheet script-at-zero e f)
 
     -- neither does: the frames decide
-    pub frames-checks : {fault number place free : ℕ} → fault ≡ first (scriptCauses script ++ roomCauses script room) .number → fault ≡ 0
+    pub frames-checks : {fault number place free : ℕ} → fault ≡ first between .number → fault ≡ 0
         → Checks (frameCauses sheet) sheet number place free → Checks (causes sheet script room) sheet number place free
-    frames-checks e z c = after-size (later-checks (scriptCauses script ++ roomCauses script room) (frameCauses sheet) sheet (run-numbered script room) (sym e ∙ z) c)
+    frames-checks e z c = after-size (later-checks between (frameCauses sheet) sheet (run-numbered (sheet .form) script room) (sym e ∙ z) c)

@@ -4,6 +4,7 @@ use native.Mathlib.Numerals.{add-one}
 use mathlib.Core.Path.{_≡_, _∙_}
 use mathlib.Core.List.{List}
 use lib.ListN.{getD}
+use Rattle.sheet.specs.Fields.{Sheet}
 use Rattle.session.specs.declared.Session.{Session}
 use Rattle.session.specs.Model.{Answer, after, lineAt}
 use Rattle.session.specs.Sound.{standingOf, WordsKept, Empty, empty-standing, empty-words}
@@ -11,12 +12,12 @@ use Rattle.session.specs.Step.{Step}
 use Rattle.run.specs.Run.{before}
 
 -- line i of the script steps session and tables, and gives that answer
-abbrev pub StepAt : List ℕ → List ℕ → ℕ → ℕ → Session → List ℕ → List ℕ → Session → List ℕ → List ℕ → Answer → Type 0
+abbrev pub StepAt : Sheet → List ℕ → ℕ → ℕ → Session → List ℕ → List ℕ → Session → List ℕ → List ℕ → Answer → Type 0
 StepAt sheet script free i x u o x' u' o' a =
     Step sheet free x u o (getD script (i * 4) 0) (getD script (i * 4 + 1) 0) (getD script (i * 4 + 2) 0) (getD script (i * 4 + 3) 0) x' u' o' (a .number) (a .v) (a .word)
 
 -- line i makes x' of the session x, with some tables before and after it, and some answer
-pub record Steps (sheet script : List ℕ) (free i : ℕ) (x x' : Session) : Type 0 where
+pub record Steps (sheet : Sheet) (script : List ℕ) (free i : ℕ) (x x' : Session) : Type 0 where
   pub under : List ℕ
   pub over : List ℕ
   pub under' : List ℕ
@@ -25,11 +26,11 @@ pub record Steps (sheet script : List ℕ) (free i : ℕ) (x x' : Session) : Typ
   pub step : StepAt sheet script free i x under over x' under' over' answer
 
 -- x is a session after the first i lines of a run, refused ones counted: it begins with no entry and no record, and each line steps it
-pub data Course (sheet script : List ℕ) (free : ℕ) : ℕ → Session → Type 0 where
+pub data Course (sheet : Sheet) (script : List ℕ) (free : ℕ) : ℕ → Session → Type 0 where
   begun : {x : Session} → Empty x → Course sheet script free zero x
   stepped : {i : ℕ} {x x' : Session} → Course sheet script free i x → Steps sheet script free i x x' → Course sheet script free (suc i) x'
 
-module _ {sheet script : List ℕ} {free : ℕ} where
+module _ {sheet : Sheet} {script : List ℕ} {free : ℕ} where
   pub course-next : {i : ℕ} {x x' : Session} → Course sheet script free i x → Steps sheet script free i x x' → Course sheet script free (i + 1) x'
   course-next {i} c t = rw (add-one i) (stepped c t)
 

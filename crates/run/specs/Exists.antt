@@ -1,28 +1,31 @@
 -- For every input some output meets run's contract: the reference model's answers, and for each ASK that is answered the record that its verdict calls for,
 -- while there is room; no other line keeps one. Assumes nothing.
-use Prim.Native.Nat.{ℕ, zero, suc, _+_, _*_, _<_}
+use Prim.Native.Nat.{ℕ, zero, suc, _+_, _<_}
 use native.Mathlib.Omega.{arith}
 use native.Mathlib.Numerals.{add-one}
 use mathlib.Core.Path.{_≡_, refl, sym, _∙_, subst}
 use mathlib.Core.Bool.{Bool, true, false, _&&_}
 use mathlib.Core.List.{List, [], _++_}
 use lib.ListN.{length, drop}
+use lib.Seq.{sets}
 use lib.Dec.{eqb, ltb}
 use borrow.Author.Tests.{eq-eqb, eqb-true}
 use Rattle.words.specs.Logic.{by-bool, clash, and-both, and-intro, tests}
 use Rattle.words.specs.Word.{bit}
-use Rattle.words.specs.Mask.{Sub, sub-refl, sub-bits, bits-sub, bits-agree}
+use Rattle.words.specs.Mask.{Sub, sub-refl, sub-trans, sub-lt, sub-bits, bits-sub, bits-agree}
 use Rattle.formula.specs.Formula.{Formula, free}
 use Rattle.formula.specs.Reason.{Explains, explains-all, explains-mask}
-use Rattle.formula.specs.Ask.{Verdict, freeMask, ask, Entries, bit-free, ask-word, ask-never}
-use Rattle.sheet.specs.Frames.{frames}
-use Rattle.sheet.specs.Rules.{variables}
+use Rattle.formula.specs.Ask.{Verdict, freeMask, ask, Entries, freeMask-lt, bit-free, ask-word, ask-never}
+use Rattle.form.specs.Form.{room, recordStart, wordEnd, answerStart, end-power}
+use Rattle.form.specs.declared.Form.{Form}
+use Rattle.sheet.specs.Fields.{Sheet, frames, variables}
 use Rattle.sheet.specs.Keeps.{Keeps}
-use Rattle.records.specs.Table.{room, grown-refl}
+use Rattle.records.specs.Layout.{numbers}
+use Rattle.records.specs.Table.{grown-refl}
 use Rattle.records.specs.Both.{tables-same}
-use Rattle.records.specs.Put.{Put, put-next, put-full, valid-put, kept-put, stored}
+use Rattle.records.specs.Put.{Put, put-next, put-full, valid-put, kept-put}
 use Rattle.solver.specs.Contract.{last, root}
-use Rattle.session.specs.Model.{enteredMask, enteredValues, answerLength, ASK, lines, answerAt, answers}
+use Rattle.session.specs.Model.{enteredMask, enteredValues, ASK, lines, answerAt, answers}
 use Rattle.session.specs.Step.{searches}
 use Rattle.run.specs.Run.{refusal, book, before, kindAt, Held, asLent, Grows, Promised-at, LineRecords, History}
 use Rattle.run.specs.History.{RecordsTrue, lent-true, history-none, history-next, history-true}
@@ -32,34 +35,37 @@ use Rattle.run.specs.Before.{before-entered, book-entries}
 
 -- ---- one record put into a table
 
-record OneMore (t : List ℕ) (count frame mask values : ℕ) : Type 0 where
+record OneMore (F : Form) (t : List ℕ) (count frame mask values : ℕ) : Type 0 where
   table : List ℕ
   count' : ℕ
-  put : Put t count table count' frame mask values
+  put : Put F t count table count' frame mask values
 
-one-more : (t : List ℕ) (count frame mask values : ℕ) → OneMore t count frame mask values
-one-more t count frame mask values = by-bool (ltb count (room t))
-    (λ e. record { table = stored t (count * 3) frame mask values; count' = _; put = put-next t count frame mask values (omega tests) })
-    (λ e. record { table = t; count' = count; put = put-full t count frame mask values (omega tests) })
+one-more : (F : Form) (t : List ℕ) (count frame mask values : ℕ) → mask < wordEnd F → values < wordEnd F → OneMore F t count frame mask values
+one-more F t count frame mask values m v = by-bool (ltb count (room F (length t)))
+    (λ e. record { table = sets t (recordStart F count) (numbers F frame mask values); count' = _; put = put-next F t count frame mask values (omega tests) m v })
+    (λ e. record { table = t; count' = count; put = put-full F t count frame mask values (omega tests) })
 
 -- ---- the record that a verdict calls for is true
 
-module _ (f : Formula) (mask values : ℕ) (E : Entries variables f mask values) where
-  yes-explains : ask variables f mask values .holds ≡ true → Explains f true (bit (freeMask variables f)) (bit (ask variables f mask values .word))
+module _ (n : ℕ) (f : Formula) (mask values : ℕ) (E : Entries n f mask values) where
+  yes-explains : ask n f mask values .holds ≡ true → Explains f true (bit (freeMask n f)) (bit (ask n f mask values .word))
   yes-explains e =
-      let w = ask variables f mask values .word in
+      let w = ask n f mask values .word in
       explains-mask (subst (λ (v : Bool). Explains f v (free f) (bit w)) (ask-word E e .holds) (explains-all f (bit w)))
-      (bit (freeMask variables f)) (λ k. sym (bit-free (E .bounded) k))
+      (bit (freeMask n f)) (λ k. sym (bit-free (E .bounded) k))
 
-  yes-inside : ask variables f mask values .holds ≡ true → Sub (ask variables f mask values .word) (freeMask variables f)
-  yes-inside e = sub-bits (ask variables f mask values .word) (freeMask variables f) (λ k h. bit-free (E .bounded) k ∙ ask-word E e .stays k h)
+  yes-inside : ask n f mask values .holds ≡ true → Sub (ask n f mask values .word) (freeMask n f)
+  yes-inside e = sub-bits (ask n f mask values .word) (freeMask n f) (λ k h. bit-free (E .bounded) k ∙ ask-word E e .stays k h)
 
-  no-explains : ask variables f mask values .holds ≡ false → Explains f false (bit mask) (bit values)
+  no-explains : ask n f mask values .holds ≡ false → Explains f false (bit mask) (bit values)
   no-explains e = record { inside = λ k h. sym (bit-free (E .bounded) k) ∙ bits-sub (E .opened) k h; forces = ask-never E e }
 
 -- ---- line i
 
-module _ (sheet script : List ℕ) (K : Keeps sheet) (i : ℕ) where
+module _ (sheet : Sheet) (script : List ℕ) (K : Keeps sheet) (i : ℕ) where
+  abbrev n : ℕ
+  n = variables sheet
+
   abbrev f : Formula
   f = root sheet
 
@@ -70,13 +76,17 @@ module _ (sheet script : List ℕ) (K : Keeps sheet) (i : ℕ) where
   values = enteredValues (before sheet script i)
 
   abbrev verdict : Verdict
-  verdict = ask variables f mask values
+  verdict = ask n f mask values
 
-  entries : Entries variables f mask values
+  entries : Entries n f mask values
   entries = book-entries sheet (before sheet script i) K (before-entered sheet script i)
 
   below : last sheet < frames sheet
   below = omega (arith, K .least)
+
+  -- a set of open variables is a word of the form
+  word-fits : {w : ℕ} → Sub w (freeMask n f) → w < wordEnd (sheet .form)
+  word-fits s = rw (end-power (sheet .form)) (sub-lt n s (freeMask-lt n f))
 
   -- the records after line i, where they were h before it
   record Next (h : Held) : Type 0 where
@@ -113,21 +123,21 @@ module _ (sheet script : List ℕ) (K : Keeps sheet) (i : ℕ) where
 
     yes-next : asks ≡ true → verdict .holds ≡ true → Next h
     yes-next a e =
-        let G = one-more (h .under) (h .cu) (last sheet) (freeMask variables f) (verdict .word) in
-        let s = yes-inside f mask values entries e in
-        let valid = valid-put (t .under) (G .put) below s (yes-explains f mask values entries e) in
+        let s = yes-inside n f mask values entries e in
+        let G = one-more (sheet .form) (h .under) (h .cu) (last sheet) (freeMask n f) (verdict .word) (word-fits (sub-refl (freeMask n f))) (word-fits s) in
+        let valid = valid-put (t .under) (G .put) below s (yes-explains n f mask values entries e) in
         asked-next a (record { under = G .table; cu = G .count'; over = h .over; co = h .co })
-        (record { tables = record { under = valid; over = t .over }; under = G .put .grown; over = grown-refl (h .over) (h .co) }) (
-          λ y. kept-put (freeMask variables f) (verdict .word) (G .put) (sub-refl (freeMask variables f)) (bits-agree _ _ _ s (λ k i. refl)),
+        (record { tables = record { under = valid; over = t .over }; under = G .put .grown; over = grown-refl (sheet .form) (h .over) (h .co) }) (
+          λ y. kept-put (freeMask n f) (verdict .word) (G .put) (sub-refl (freeMask n f)) (bits-agree _ _ _ s (λ k i. refl)),
           λ n. clash (verdict .holds) e n,
         )
 
     no-next : asks ≡ true → verdict .holds ≡ false → Next h
     no-next a e =
-        let G = one-more (h .over) (h .co) (last sheet) mask values in
-        let valid = valid-put (t .over) (G .put) below (entries .valued) (no-explains f mask values entries e) in
+        let G = one-more (sheet .form) (h .over) (h .co) (last sheet) mask values (word-fits (entries .opened)) (word-fits (sub-trans (entries .valued) (entries .opened))) in
+        let valid = valid-put (t .over) (G .put) below (entries .valued) (no-explains n f mask values entries e) in
         asked-next a (record { under = h .under; cu = h .cu; over = G .table; co = G .count' })
-        (record { tables = record { under = t .under; over = valid }; under = grown-refl (h .under) (h .cu); over = G .put .grown }) (
+        (record { tables = record { under = t .under; over = valid }; under = grown-refl (sheet .form) (h .under) (h .cu); over = G .put .grown }) (
           λ y. clash (verdict .holds) y e,
           λ n. kept-put mask values (G .put) (sub-refl mask) (bits-agree _ _ _ (entries .valued) (λ k i. refl)),
         )
@@ -148,11 +158,11 @@ module _ (sheet script : List ℕ) (K : Keeps sheet) (i : ℕ) where
 
 -- ---- the first n lines
 
-record Filled (sheet script under over : List ℕ) (n : ℕ) : Type 0 where
+record Filled (sheet : Sheet) (script under over : List ℕ) (n : ℕ) : Type 0 where
   exit : Held
   history : History sheet script n (asLent under over) exit
 
-module _ (sheet script under over : List ℕ) (K : Keeps sheet) where
+module _ (sheet : Sheet) (script under over : List ℕ) (K : Keeps sheet) where
   filled-true : {n : ℕ} (F : Filled sheet script under over n) → RecordsTrue sheet (F .exit)
   filled-true {n} F = rw (F .history .ends) at (history-true (F .history) (lent-true sheet under over) n (omega arith))
 
@@ -165,7 +175,7 @@ module _ (sheet script under over : List ℕ) (K : Keeps sheet) where
 
 -- ---- an output for every input
 
-module _ (sheet script ans under over : List ℕ) where
+module _ (sheet : Sheet) (script ans under over : List ℕ) where
   abbrev number : ℕ
   number = refusal sheet script (length ans) .number
 
@@ -189,7 +199,7 @@ module _ (sheet script ans under over : List ℕ) where
           ans = ans;
           under = under;
           over = over;
-          ans' = answers (book sheet) script ++ drop (answerLength * lines script) ans;
+          ans' = answers (sheet .form) (book sheet) script ++ drop (answerStart (sheet .form) (lines script)) ans;
           under' = F .exit .under;
           over' = F .exit .over;
           number = number;

@@ -8,30 +8,31 @@ use mathlib.Core.List.{List}
 use lib.Dec.{eqb, leb}
 use borrow.Author.Tests.{le-leb, lt-leb}
 use Rattle.words.specs.Logic.{by-bool, tests}
+use Rattle.sheet.specs.Fields.{Sheet}
 use Rattle.records.specs.Table.{kept-grown}
 use Rattle.records.specs.Both.{tables-none, tables-same, tables-then}
 use Rattle.solver.specs.Contract.{Tables}
 use Rattle.run.specs.Run.{Held, asLent, Grows, Asked, Promised-at, LineRecords, History}
 
 -- every counted record is true
-abbrev pub RecordsTrue : List ℕ → Held → Type 0
+abbrev pub RecordsTrue : Sheet → Held → Type 0
 RecordsTrue sheet h = Tables sheet (h .under) (h .cu) (h .over) (h .co)
 
 -- ---- tables that grow
 
-pub lent-true : (sheet under over : List ℕ) → RecordsTrue sheet (asLent under over)
+pub lent-true : (sheet : Sheet) (under over : List ℕ) → RecordsTrue sheet (asLent under over)
 lent-true sheet under over = tables-none under over
 
 -- what was promised still stands in larger tables
-pub promised-grows : (sheet script : List ℕ) (i : ℕ) {h h' : Held} → Grows sheet h h' → Promised-at sheet script i h → Promised-at sheet script i h'
+pub promised-grows : (sheet : Sheet) (script : List ℕ) (i : ℕ) {h h' : Held} → Grows sheet h h' → Promised-at sheet script i h → Promised-at sheet script i h'
 promised-grows sheet script i g p = (λ y. kept-grown _ _ _ (g .under) (p .0 y), λ n. kept-grown _ _ _ (g .over) (p .1 n))
 
 -- ---- no line, and one line more
 
-pub history-none : {sheet script : List ℕ} (h : Held) → History sheet script 0 h h
+pub history-none : {sheet : Sheet} {script : List ℕ} (h : Held) → History sheet script 0 h h
 history-none h = record { records = λ i. h; starts = refl; each = λ i l. absurd (omega arith); ends = refl }
 
-module _ {sheet script : List ℕ} {n : ℕ} {h h₁ h₂ : Held} (H : History sheet script n h h₁) (K : LineRecords sheet script n h₁ h₂) where
+module _ {sheet : Sheet} {script : List ℕ} {n : ℕ} {h h₁ h₂ : Held} (H : History sheet script n h h₁) (K : LineRecords sheet script n h₁ h₂) where
   longer : ℕ → Held
   longer i = cond (leb i n) (H .records i) h₂
 
@@ -53,7 +54,7 @@ module _ {sheet script : List ℕ} {n : ℕ} {h h₁ h₂ : Held} (H : History s
 
 -- ---- from one line to a later one
 
-module _ {sheet script : List ℕ} {n : ℕ} {h h' : Held} (H : History sheet script n h h') (t : RecordsTrue sheet h) where
+module _ {sheet : Sheet} {script : List ℕ} {n : ℕ} {h h' : Held} (H : History sheet script n h h') (t : RecordsTrue sheet h) where
   pub history-true : (i : ℕ) → i ≤ n → RecordsTrue sheet (H .records i)
   history-true zero l = rw (H .starts) t
   history-true (suc i) l = rw (add-one i) at (H .each i (omega arith) .grows .tables)

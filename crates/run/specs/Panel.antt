@@ -1,14 +1,17 @@
--- The twelve starred panel cases of document 01 as a table, and what the definitions say of a case. PanelHolds.antt: they say what is expected. Assumes nothing.
-use Prim.Native.Nat.{ℕ, _*_}
+-- The twelve starred panel cases of document 01, whose sheets are narrow, as a table, and what the definitions say of a case. PanelHolds.antt: they say
+-- what is expected. Assumes nothing.
+use Prim.Native.Nat.{ℕ}
 use mathlib.Core.Bool.{cond}
 use mathlib.Core.List.{List, [], _∷_, flatMap}
 use lib.Dec.{eqb}
 use Rattle.words.specs.Bytes.{bytesOf}
 use Rattle.formula.specs.Formula.{Formula}
 use Rattle.sheet.specs.Cause.{Refusal}
-use Rattle.sheet.specs.Rules.{variables}
+use Rattle.form.specs.Form.{variables, answerStart, answerBytes}
+use Rattle.form.specs.declared.Form.the-variants.{Narrow}
+use Rattle.sheet.specs.Fields.{Sheet, narrow}
 use Rattle.solver.specs.Contract.{root}
-use Rattle.session.specs.Model.{Meaning, meaning, answerLength, lines, answers}
+use Rattle.session.specs.Model.{Meaning, meaning, lines, answers}
 use Rattle.run.specs.Run.{refusal}
 
 -- ---- bytes as document 01 writes them
@@ -32,7 +35,7 @@ pub record Case : Type 0 where
 
 -- the answers that are printed, a line to a number
 abbrev pub prints : List ℕ → Outcome
-prints xs = record { refusal = record { number = 0; place = 0 }; answers = bytesOfAll answerLength xs }
+prints xs = record { refusal = record { number = 0; place = 0 }; answers = bytesOfAll (answerBytes Narrow) xs }
 
 abbrev pub refuses : ℕ → ℕ → Outcome
 refuses n k = record { refusal = record { number = n; place = k }; answers = [] }
@@ -78,11 +81,11 @@ panel =
 -- ---- what the definitions say of a case
 
 -- with the meaning m of a formula
-unfoldable pub outcomeBy : (Formula → Meaning) → List ℕ → List ℕ → Outcome
+unfoldable pub outcomeBy : (Formula → Meaning) → Sheet → List ℕ → Outcome
 outcomeBy m sheet script =
-    let r = refusal sheet script (answerLength * lines script) in
-    let written = answers (m (root sheet)) script in
+    let r = refusal sheet script (answerStart (sheet .form) (lines script)) in
+    let written = answers (sheet .form) (m (root sheet)) script in
     record { refusal = r; answers = cond (eqb (r .number) 0) written [] }
 
 unfoldable pub outcome : Case → Outcome
-outcome c = outcomeBy (meaning variables) (bytesOfAll 4 (c .sheet)) (bytesOfAll 4 (c .script))
+outcome c = outcomeBy (meaning (variables Narrow)) (narrow (bytesOfAll 4 (c .sheet))) (bytesOfAll 4 (c .script))

@@ -12,9 +12,12 @@ use Rattle.formula.specs.Formula.{Formula, free}
 use Rattle.formula.specs.Ask.{freeMask}
 use Rattle.formula.specs.Why.{overlay, startMask, startWord}
 use Rattle.formula.specs.Compute.{sweepOver, truthOver, firstOver, askOver, alwaysOver, reduceOver, whyOver, askOver-ask, whyOver-why}
-use Rattle.sheet.specs.Frames.{kindOf, kind, build, tree, formulaOf}
+use Rattle.form.specs.Form.{variables}
+use Rattle.form.specs.declared.Form.the-variants.{Narrow}
+use Rattle.sheet.specs.Fields.{narrow, fieldsAt, kindOf}
+use Rattle.sheet.specs.Frames.{build, tree, formulaOf}
 use Rattle.sheet.specs.Cause.{first}
-use Rattle.sheet.specs.Rules.{variables, someBelow, used, spareSet, names, someLate, badRange, badVariables, binds, boundBefore, meet, lengthCauses, byteCauses, causesBelow, frameCauses}
+use Rattle.sheet.specs.Rules.{someBelow, used, spareSet, names, someLate, badRange, badVariables, binds, boundBefore, meet, lengthCauses, fieldCauses, causesBelow, frameCauses}
 use Rattle.session.specs.Model as Model
 use Rattle.session.specs.Model.{Meaning, meaning}
 use Rattle.run.specs.Run.{scriptCauses, roomCauses}
@@ -33,20 +36,20 @@ meaningOver-meaning n f = λ i. record {
 }
 
 unfoldable outcomeOver : Case → Outcome
-outcomeOver c = outcomeBy (meaningOver variables) (bytesOfAll 4 (c .sheet)) (bytesOfAll 4 (c .script))
+outcomeOver c = outcomeBy (meaningOver (variables Narrow)) (narrow (bytesOfAll 4 (c .sheet))) (bytesOfAll 4 (c .script))
 
 outcome-over : (c : Case) → outcome c ≡ outcomeOver c
 unfolding outcome outcomeOver
-outcome-over c = ap (λ (m : Formula → Meaning). outcomeBy m (bytesOfAll 4 (c .sheet)) (bytesOfAll 4 (c .script))) (fun-ext (λ f. sym (meaningOver-meaning variables f)))
+outcome-over c = ap (λ (m : Formula → Meaning). outcomeBy m (narrow (bytesOfAll 4 (c .sheet))) (bytesOfAll 4 (c .script))) (fun-ext (λ f. sym (meaningOver-meaning (variables Narrow) f)))
 
 abbrev expected : Case → Outcome
 expected c = c .expected
 
 computed : map outcomeOver panel ≡ map expected panel
 unfolding panel outcomeOver outcomeBy flatMap bytesOf
-    first lengthCauses scriptCauses roomCauses frameCauses causesBelow byteCauses
+    first lengthCauses scriptCauses roomCauses frameCauses causesBelow fieldCauses
     someBelow used spareSet names someLate badRange badVariables binds boundBefore meet
-    kindOf kind build tree formulaOf free within
+    fieldsAt kindOf build tree formulaOf free within
     meaningOver askOver whyOver firstOver truthOver sweepOver alwaysOver reduceOver freeMask maskOf join assign overlay startMask startWord without inside bit
     Model.enteredMask Model.enteredValues Model.entered Model.answerBytes Model.used Model.unknown Model.lineRefusal Model.obeyed Model.line Model.lineAt Model.after Model.answerAt Model.answersTo Model.answers
 computed = refl

@@ -8,12 +8,15 @@ use lib.Dec.{eqb, ltb}
 use Rattle.formula.specs.Ask.{ask}
 use Rattle.sheet.specs.Refusal as Number
 use Rattle.sheet.specs.Cause.{Cause, Refusal, first}
-use Rattle.sheet.specs.Rules.{variables, cause, sizeCauses, frameCauses}
+use Rattle.form.specs.Form.{answerStart}
+use Rattle.form.specs.declared.Form.{Form}
+use Rattle.sheet.specs.Fields.{Sheet, variables}
+use Rattle.sheet.specs.Rules.{cause, sizeCauses, frameCauses}
 use Rattle.solver.specs.Contract.{root, TablesGrown, Promised}
 use Rattle.session.specs.declared.Entry.{Entry}
 use Rattle.session.specs.Sound.{sheetMeaning}
 use Rattle.session.specs.Step.{searches}
-use Rattle.session.specs.Model.{Meaning, enteredMask, enteredValues, answerLength, ASK, lines, after, answerAt, answers}
+use Rattle.session.specs.Model.{Meaning, enteredMask, enteredValues, ASK, lines, after, answerAt, answers}
 
 -- ---- refusals
 
@@ -24,24 +27,24 @@ unfoldable pub scriptCauses : List ℕ → List Cause
 scriptCauses s = cause (not (eqb (length s % 4) 0)) Number.notWhole 0 ∷ (cause (ltb mostLines (lines s)) Number.scriptTooLong 0 ∷ [])
 
 -- of an answer buffer of that many bytes
-unfoldable pub roomCauses : List ℕ → ℕ → List Cause
-roomCauses s bytes = cause (ltb bytes (answerLength * lines s)) Number.noRoom 0 ∷ []
+unfoldable pub roomCauses : Form → List ℕ → ℕ → List Cause
+roomCauses F s bytes = cause (ltb bytes (answerStart F (lines s))) Number.noRoom 0 ∷ []
 
 -- document 01's order: the sheet's size, the script's, the room, and only then the sheet's frames
-abbrev pub causes : List ℕ → List ℕ → ℕ → List Cause
-causes sheet script bytes = sizeCauses sheet ++ (scriptCauses script ++ (roomCauses script bytes ++ frameCauses sheet))
+abbrev pub causes : Sheet → List ℕ → ℕ → List Cause
+causes sheet script bytes = sizeCauses sheet ++ (scriptCauses script ++ (roomCauses (sheet .form) script bytes ++ frameCauses sheet))
 
-abbrev pub refusal : List ℕ → List ℕ → ℕ → Refusal
+abbrev pub refusal : Sheet → List ℕ → ℕ → Refusal
 refusal sheet script bytes = first (causes sheet script bytes)
 
 -- ---- what a line of the script means
 
 -- what the reference model takes from a sheet: the meaning of its last frame
-abbrev pub book : List ℕ → Meaning
+abbrev pub book : Sheet → Meaning
 book sheet = sheetMeaning sheet
 
 -- the entries that stand before line i of the script
-abbrev pub before : List ℕ → List ℕ → ℕ → List Entry
+abbrev pub before : Sheet → List ℕ → ℕ → List Entry
 before sheet script i = after (book sheet) [] script i
 
 -- the kind of line i
@@ -49,12 +52,12 @@ abbrev pub kindAt : List ℕ → ℕ → ℕ
 kindAt script i = getD script (i * 4) 0
 
 -- line i of the script is of the kind k, and is not refused
-pub record Taken (k : ℕ) (sheet script : List ℕ) (i : ℕ) : Type 0 where
+pub record Taken (k : ℕ) (sheet : Sheet) (script : List ℕ) (i : ℕ) : Type 0 where
   pub line : i < lines script
   pub kind : kindAt script i ≡ k
   pub taken : answerAt (book sheet) [] script i .number ≡ 0
 
-abbrev pub Asked : List ℕ → List ℕ → ℕ → Type 0
+abbrev pub Asked : Sheet → List ℕ → ℕ → Type 0
 Asked sheet script i = Taken ASK sheet script i
 
 -- ---- the records in the course of a run
@@ -71,17 +74,17 @@ abbrev pub asLent : List ℕ → List ℕ → Held
 asLent under over = record { under = under; cu = 0; over = over; co = 0 }
 
 -- every counted record is true, those that were counted stay, and the numbers behind the counts are as found
-abbrev pub Grows : List ℕ → Held → Held → Type 0
+abbrev pub Grows : Sheet → Held → Held → Type 0
 Grows sheet h h' = TablesGrown sheet (h .under) (h .cu) (h .over) (h .co) (h' .under) (h' .cu) (h' .over) (h' .co)
 
 -- document 01's promise for line i: the table concerned is full, or a counted record is the one that the verdict calls for
-abbrev pub Promised-at : List ℕ → List ℕ → ℕ → Held → Type 0
+abbrev pub Promised-at : Sheet → List ℕ → ℕ → Held → Type 0
 Promised-at sheet script i h =
     let es = before sheet script i in
-    Promised sheet (enteredMask es) (enteredValues es) (ask variables (root sheet) (enteredMask es) (enteredValues es)) (h .under) (h .cu) (h .over) (h .co)
+    Promised sheet (enteredMask es) (enteredValues es) (ask (variables sheet) (root sheet) (enteredMask es) (enteredValues es)) (h .under) (h .cu) (h .over) (h .co)
 
 -- what line i makes of the records h before it: h' after it
-pub record LineRecords (sheet script : List ℕ) (i : ℕ) (h h' : Held) : Type 0 where
+pub record LineRecords (sheet : Sheet) (script : List ℕ) (i : ℕ) (h h' : Held) : Type 0 where
   pub grows : Grows sheet h h'
   -- a refused line changes nothing, and neither do ENTER, TAKE BACK and READ
   pub refused : 0 < answerAt (book sheet) [] script i .number → h' ≡ h
@@ -90,7 +93,7 @@ pub record LineRecords (sheet script : List ℕ) (i : ℕ) (h h' : Held) : Type 
   pub promised : Asked sheet script i → Promised-at sheet script i h'
 
 -- How the records go through the first n lines, from h to h'. Which records an ASK or a WHY keeps, and how many, is the program's choice.
-pub record History (sheet script : List ℕ) (n : ℕ) (h h' : Held) : Type 0 where
+pub record History (sheet : Sheet) (script : List ℕ) (n : ℕ) (h h' : Held) : Type 0 where
   -- before line i, which is after line i - 1
   pub records : ℕ → Held
   pub starts : records 0 ≡ h
@@ -100,19 +103,19 @@ pub record History (sheet script : List ℕ) (n : ℕ) (h h' : Held) : Type 0 wh
 -- ---- the contract
 
 -- What run tells and leaves in the buffers, as far as it has no choice. At entry and, primed, at exit; cu and co are the two record counts.
-pub record Answers (sheet script ans under over ans' under' over' : List ℕ) (number place cu co : ℕ) : Type 0 where
+pub record Answers (sheet : Sheet) (script ans under over ans' under' over' : List ℕ) (number place cu co : ℕ) : Type 0 where
   pub number-is : number ≡ refusal sheet script (length ans) .number
   pub place-is : place ≡ refusal sheet script (length ans) .place
   -- refused: everything as at entry, and no records
   pub untouched : 0 < number → (ans' ≡ ans) × (under' ≡ under) × (over' ≡ over) × (cu ≡ 0) × (co ≡ 0)
   -- accepted: the reference model's bytes, then what was behind them
-  pub written : number ≡ 0 → ans' ≡ answers (book sheet) script ++ drop (answerLength * lines script) ans
+  pub written : number ≡ 0 → ans' ≡ answers (sheet .form) (book sheet) script ++ drop (answerStart (sheet .form) (lines script)) ans
 
 -- what the records of an accepted run have in common: a history from the tables as lent to the tables at exit
-abbrev pub Records : List ℕ → List ℕ → List ℕ → List ℕ → List ℕ → List ℕ → ℕ → ℕ → Type 0
+abbrev pub Records : Sheet → List ℕ → List ℕ → List ℕ → List ℕ → List ℕ → ℕ → ℕ → Type 0
 Records sheet script under over under' over' cu co =
     History sheet script (lines script) (asLent under over) (record { under = under'; cu = cu; over = over'; co = co })
 
-pub record Run (sheet script ans under over ans' under' over' : List ℕ) (number place cu co : ℕ) : Type 0 where
+pub record Run (sheet : Sheet) (script ans under over ans' under' over' : List ℕ) (number place cu co : ℕ) : Type 0 where
   pub answered : Answers sheet script ans under over ans' under' over' number place cu co
   pub recorded : number ≡ 0 → Records sheet script under over under' over' cu co

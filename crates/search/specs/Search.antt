@@ -8,7 +8,7 @@ use Rattle.words.specs.Word.{bit}
 use Rattle.formula.specs.Formula.{truth}
 use Rattle.records.specs.Both.{Tables}
 use Rattle.net.specs.Net.{Clear}
-use Rattle.net.specs.Layout.{framesOf, packed, formulaAt, val, Ground}
+use Rattle.net.specs.Layout.{netForm, framesOf, packed, formulaAt, val, Ground}
 use Rattle.judge.specs.Judge.{Judged}
 pub use Rattle.imply.specs.Posed.{Found, Lost, Free, Covers, Posed}
 pub use Rattle.proxies.specs.Told.{Told}
@@ -21,7 +21,7 @@ Solved net a t loose w false word r = Lost (formulaAt net a) (val t) loose w r
 -- the scratch for wants has a place for every node, and the records are true of the net
 pub record Lent (net wants u : List ℕ) (cu : ℕ) (o : List ℕ) (co : ℕ) : Type 0 where
   pub long : length net ≤ 66 + length wants
-  pub tables : Tables (formulaAt net) (framesOf net) u cu o co
+  pub tables : Tables (netForm net) (formulaAt net) (framesOf net) u cu o co
 
 -- node i under a full candidate, or a quantifier at the place behind the frames
 pub record Checked (net : List ℕ) (i m w : ℕ) (cells : List ℕ) : Type 0 where

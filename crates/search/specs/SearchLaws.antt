@@ -14,13 +14,14 @@ use Rattle.cube.specs.Cube.{Fixed}
 use Rattle.formula.specs.Formula.{Formula, free}
 use Rattle.formula.specs.Reason.{explains-neg, gate-left, gate-right, explains-set}
 use Rattle.formula.specs.ReasonWord.{word-never, word-input, word-both}
-use Rattle.sheet.specs.Rules.{variables}
-use Rattle.records.specs.Both.{TablesGrown}
+use Rattle.form.specs.Form.{recordStart}
+use Rattle.form.specs.declared.Form.{Form}
+use Rattle.records.specs.Both.{Tables, TablesGrown}
 use Rattle.net.specs.Over.{over-free}
 use Rattle.net.specs.Net.{Clear}
 use Rattle.net.specs.Clear.{clear-less, clear-sub, clear-or}
 use Rattle.net.specs.Stands.{mask-decided, mask-undecided}
-use Rattle.net.specs.Layout.{framesOf, packed, formulaAt, Is, val, val-not, val-flip, decides, decides-some, decides-low, binds-is}
+use Rattle.net.specs.Layout.{netForm, framesOf, packed, formulaAt, Is, val, val-not, val-flip, decides, decides-some, decides-low, binds-is}
 use Rattle.net.specs.Layout.{f-fixed, f-true, f-reads, f-flips, f-joins, f-binds, flips-below, joins-left, joins-right, binds-below}
 use Rattle.judge.specs.Judge.{Right, Judged}
 use Rattle.proxies.specs.Kept.{Shown}
@@ -194,8 +195,13 @@ module _ {net : List ℕ} {i m w op left right mask : ℕ} {cells : List ℕ} (K
 -- ---- what is lent, after a call
 
 pub lent-after : {net wants wants′ u u' : List ℕ} {cu cu' : ℕ} {o o' : List ℕ} {co co' : ℕ}
-    → Lent net wants u cu o co → TablesGrown (formulaAt net) (framesOf net) u cu o co u' cu' o' co' → length wants′ ≡ length wants → Lent net wants′ u' cu' o' co'
+    → Lent net wants u cu o co → TablesGrown (netForm net) (formulaAt net) (framesOf net) u cu o co u' cu' o' co' → length wants′ ≡ length wants → Lent net wants′ u' cu' o' co'
 lent-after L g e = record { long = rw e (L .long); tables = g .tables }
+
+-- counted records fit, in the form as the code has it
+pub tables-fit : {F G : Form} {φ : ℕ → Formula} {n : ℕ} {u : List ℕ} {cu : ℕ} {o : List ℕ} {co : ℕ} → F ≡ G → Tables G φ n u cu o co
+    → (recordStart F cu ≤ length u) × (recordStart F co ≤ length o)
+tables-fit e T = (rw e (T .under .fits), rw e (T .over .fits))
 
 -- ---- the measure of a call: first the node, then the loose variables as a word. A node is worth more than every word
 

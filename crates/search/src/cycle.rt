@@ -17,8 +17,7 @@ ghost use mathlib.Core.Path.{_≡_};
 ghost use Prim.Native.Nat.{ℕ, _<_, _≤_};
 ghost use Rattle.words.specs.Mask as Mask;
 ghost use Rattle.records.specs.Both.{TablesGrown};
-ghost use Rattle.sheet.specs.Rules.{variables};
-ghost use Rattle.net.specs.Layout.{framesOf, formulaAt, Is, decides};
+ghost use Rattle.net.specs.Layout.{netForm, framesOf, formulaAt, Is, decides};
 ghost use Rattle.judge.specs.Judge.{Judging};
 ghost use Rattle.proxies.specs.Kept.{Noted};
 ghost use Rattle.search.specs.Search.{Posed, Solved, Checked, Told, Leaf, Lent};
@@ -57,7 +56,7 @@ pub fn choose(
     requires { ⌜ Checked (now net) i (cube .mask) (cube .values) (now cells) ⌝ }
     requires { ⌜ Lent (now net) (now wants) (now under) (kept .under) (now over) (kept .over) ⌝ }
     ensures { λ r. ⌜ Solved (now (net .entry)) (node .left) (decides (node .op)) (node .mask) (Mask.without (cube .values) (node .mask)) (r .found) (r .word) (r .reason) × (now (cells .exit) ≡ now (cells .entry)) ⌝ }
-    ensures { λ r. ⌜ TablesGrown (formulaAt (now (net .entry))) (framesOf (now (net .entry))) (now (under .entry)) (kept .under) (now (over .entry)) (kept .over) (now (under .exit)) (r .kept .under) (now (over .exit)) (r .kept .over) ⌝ }
+    ensures { λ r. ⌜ TablesGrown (netForm (now (net .entry))) (formulaAt (now (net .entry))) (framesOf (now (net .entry))) (now (under .entry)) (kept .under) (now (over .entry)) (kept .over) (now (under .exit)) (r .kept .under) (now (over .exit)) (r .kept .over) ⌝ }
 {
     let inner = cube.free_all(node.mask);
     let d = decided(node.op);
@@ -109,7 +108,7 @@ fn extend(
     requires { ⌜ Posed (now net) a target loose (cube .mask) (cube .values) (now cells) ⌝ }
     requires { ⌜ Lent (now net) (now wants) (now under) (kept .under) (now over) (kept .over) ⌝ }
     ensures { λ r. ⌜ Solved (now (net .entry)) a target loose (cube .values) (r .found) (r .word) (r .reason) × (now (cells .exit) ≡ now (cells .entry)) ⌝ }
-    ensures { λ r. ⌜ TablesGrown (formulaAt (now (net .entry))) (framesOf (now (net .entry))) (now (under .entry)) (kept .under) (now (over .entry)) (kept .over) (now (under .exit)) (r .kept .under) (now (over .exit)) (r .kept .over) ⌝ }
+    ensures { λ r. ⌜ TablesGrown (netForm (now (net .entry))) (formulaAt (now (net .entry))) (framesOf (now (net .entry))) (now (under .entry)) (kept .under) (now (over .entry)) (kept .over) (now (under .exit)) (r .kept .under) (now (over .exit)) (r .kept .over) ⌝ }
 {
     let touched = begin(fresh, loose);
     let head = forward::judge(net, a, touched, cube, cells, cells::END);
@@ -134,7 +133,7 @@ fn settle(
     requires { ⌜ Posed (now net) a target loose (cube .mask) (cube .values) (now cells) ⌝ }
     requires { ⌜ Lent (now net) (now wants) (now under) (kept .under) (now over) (kept .over) ⌝ }
     ensures { λ r. ⌜ Solved (now (net .entry)) a target loose (cube .values) (r .found) (r .word) (r .reason) × (now (cells .exit) ≡ now (cells .entry)) ⌝ }
-    ensures { λ r. ⌜ TablesGrown (formulaAt (now (net .entry))) (framesOf (now (net .entry))) (now (under .entry)) (kept .under) (now (over .entry)) (kept .over) (now (under .exit)) (r .kept .under) (now (over .exit)) (r .kept .over) ⌝ }
+    ensures { λ r. ⌜ TablesGrown (netForm (now (net .entry))) (formulaAt (now (net .entry))) (framesOf (now (net .entry))) (now (under .entry)) (kept .under) (now (over .entry)) (kept .over) (now (under .exit)) (r .kept .under) (now (over .exit)) (r .kept .over) ⌝ }
 {
     let known = known_at(&cells[..], a);
     if known.value != 0 {
@@ -179,7 +178,7 @@ fn push(
     requires { ⌜ Posed (now net) a target loose (cube .mask) (cube .values) (now cells) ⌝ }
     requires { ⌜ Lent (now net) (now wants) (now under) (kept .under) (now over) (kept .over) ⌝ }
     ensures { λ r. ⌜ Solved (now (net .entry)) a target loose (cube .values) (r .found) (r .word) (r .reason) × (now (cells .exit) ≡ now (cells .entry)) ⌝ }
-    ensures { λ r. ⌜ TablesGrown (formulaAt (now (net .entry))) (framesOf (now (net .entry))) (now (under .entry)) (kept .under) (now (over .entry)) (kept .over) (now (under .exit)) (r .kept .under) (now (over .exit)) (r .kept .over) ⌝ }
+    ensures { λ r. ⌜ TablesGrown (netForm (now (net .entry))) (formulaAt (now (net .entry))) (framesOf (now (net .entry))) (now (under .entry)) (kept .under) (now (over .entry)) (kept .over) (now (under .exit)) (r .kept .under) (now (over .exit)) (r .kept .over) ⌝ }
 {
     let mut whys = [0u64; 64];
     let f = imply::force(net, a, target, loose, cube, &cells[..], wants, &mut whys);
@@ -234,7 +233,7 @@ fn branch(
     requires { ⌜ Posed (now net) a target loose (cube .mask) (cube .values) (now cells) ⌝ }
     requires { ⌜ Lent (now net) (now wants) (now under) (kept .under) (now over) (kept .over) ⌝ }
     ensures { λ r. ⌜ Solved (now (net .entry)) a target loose (cube .values) (r .found) (r .word) (r .reason) × (now (cells .exit) ≡ now (cells .entry)) ⌝ }
-    ensures { λ r. ⌜ TablesGrown (formulaAt (now (net .entry))) (framesOf (now (net .entry))) (now (under .entry)) (kept .under) (now (over .entry)) (kept .over) (now (under .exit)) (r .kept .under) (now (over .exit)) (r .kept .over) ⌝ }
+    ensures { λ r. ⌜ TablesGrown (netForm (now (net .entry))) (formulaAt (now (net .entry))) (framesOf (now (net .entry))) (now (under .entry)) (kept .under) (now (over .entry)) (kept .over) (now (under .exit)) (r .kept .under) (now (over .exit)) (r .kept .over) ⌝ }
 {
     let x = w64::highest(loose);
     let only = w64::one(x);
@@ -304,7 +303,7 @@ fn candidate(
     requires { ⌜ Posed (now net) a target 0 (cube .mask) (cube .values) (now cells) ⌝ }
     requires { ⌜ Lent (now net) (now wants) (now under) (kept .under) (now over) (kept .over) ⌝ }
     ensures { λ r. ⌜ Solved (now (net .entry)) a target 0 (cube .values) (r .found) (r .word) (r .reason) × (now (cells .exit) ≡ now (cells .entry)) ⌝ }
-    ensures { λ r. ⌜ TablesGrown (formulaAt (now (net .entry))) (framesOf (now (net .entry))) (now (under .entry)) (kept .under) (now (over .entry)) (kept .over) (now (under .exit)) (r .kept .under) (now (over .exit)) (r .kept .over) ⌝ }
+    ensures { λ r. ⌜ TablesGrown (netForm (now (net .entry))) (formulaAt (now (net .entry))) (framesOf (now (net .entry))) (now (under .entry)) (kept .under) (now (over .entry)) (kept .over) (now (under .exit)) (r .kept .under) (now (over .exit)) (r .kept .over) ⌝ }
 {
     let c = check(net, a, cube, cells, wants, cells::END, under, over, kept);
     cells::undo(cells, c.head);
@@ -341,7 +340,7 @@ fn check(
     requires { ⌜ (i < framesOf (now net)) × Checked (now net) i (cube .mask) (cube .values) (now cells) ⌝ }
     requires { ⌜ Lent (now net) (now wants) (now under) (kept .under) (now over) (kept .over) ⌝ }
     ensures { λ r. ⌜ Told (now (net .entry)) (cube .mask) (cube .values) i (r .value) (r .reason) × Judging (now (net .entry)) (cube .mask) (cube .values) (now (cells .entry)) head (now (cells .exit)) (r .head) ⌝ }
-    ensures { λ r. ⌜ TablesGrown (formulaAt (now (net .entry))) (framesOf (now (net .entry))) (now (under .entry)) (kept .under) (now (over .entry)) (kept .over) (now (under .exit)) (r .kept .under) (now (over .exit)) (r .kept .over) ⌝ }
+    ensures { λ r. ⌜ TablesGrown (netForm (now (net .entry))) (formulaAt (now (net .entry))) (framesOf (now (net .entry))) (now (under .entry)) (kept .under) (now (over .entry)) (kept .over) (now (under .exit)) (r .kept .under) (now (over .exit)) (r .kept .over) ⌝ }
 {
     let known = known_at(&cells[..], i);
     if known.value != 0 {
@@ -373,7 +372,7 @@ fn check(
 
 // A constant, or an input under a full candidate.
 fn leaf(op: u8, left: usize, cube: Cube64) -> Known
-    requires { ⌜ (op < 3) × (op ≡ 2 → left < variables) ⌝ }
+    requires { ⌜ (op < 3) × (op ≡ 2 → left < 64) ⌝ }
     ensures { λ r. ⌜ Leaf op left (cube .values) (r .value) (r .reason) ⌝ }
 {
     if op < 2 {
@@ -411,7 +410,7 @@ fn evaluate(
     requires { ⌜ (i < framesOf (now net)) × Checked (now net) i (cube .mask) (cube .values) (now cells) ⌝ }
     requires { ⌜ Lent (now net) (now wants) (now under) (kept .under) (now over) (kept .over) ⌝ }
     ensures { λ r. ⌜ Told (now (net .entry)) (cube .mask) (cube .values) i (r .value) (r .reason) × Judging (now (net .entry)) (cube .mask) (cube .values) (now (cells .entry)) head (now (cells .exit)) (r .head) ⌝ }
-    ensures { λ r. ⌜ TablesGrown (formulaAt (now (net .entry))) (framesOf (now (net .entry))) (now (under .entry)) (kept .under) (now (over .entry)) (kept .over) (now (under .exit)) (r .kept .under) (now (over .exit)) (r .kept .over) ⌝ }
+    ensures { λ r. ⌜ TablesGrown (netForm (now (net .entry))) (formulaAt (now (net .entry))) (framesOf (now (net .entry))) (now (under .entry)) (kept .under) (now (over .entry)) (kept .over) (now (under .exit)) (r .kept .under) (now (over .exit)) (r .kept .over) ⌝ }
 {
     let node = node_at(net, i);
     let op = node.op;
@@ -457,7 +456,7 @@ fn gate(
     requires { ⌜ (i < framesOf (now net)) × Checked (now net) i (cube .mask) (cube .values) (now cells) ⌝ }
     requires { ⌜ Lent (now net) (now wants) (now under) (kept .under) (now over) (kept .over) ⌝ }
     ensures { λ r. ⌜ Told (now (net .entry)) (cube .mask) (cube .values) i (r .value) (r .reason) × Judging (now (net .entry)) (cube .mask) (cube .values) (now (cells .entry)) head (now (cells .exit)) (r .head) ⌝ }
-    ensures { λ r. ⌜ TablesGrown (formulaAt (now (net .entry))) (framesOf (now (net .entry))) (now (under .entry)) (kept .under) (now (over .entry)) (kept .over) (now (under .exit)) (r .kept .under) (now (over .exit)) (r .kept .over) ⌝ }
+    ensures { λ r. ⌜ TablesGrown (netForm (now (net .entry))) (formulaAt (now (net .entry))) (framesOf (now (net .entry))) (now (under .entry)) (kept .under) (now (over .entry)) (kept .over) (now (under .exit)) (r .kept .under) (now (over .exit)) (r .kept .over) ⌝ }
 {
     let d = node.op - 3;
     let c = check(net, node.left, cube, cells, wants, head, under, over, kept);
@@ -505,10 +504,11 @@ fn quantified(
     requires { ⌜ (i < framesOf (now net)) × Checked (now net) i (cube .mask) (cube .values) (now cells) ⌝ }
     requires { ⌜ Lent (now net) (now wants) (now under) (kept .under) (now over) (kept .over) ⌝ }
     ensures { λ r. ⌜ Told (now (net .entry)) (cube .mask) (cube .values) i (r .value) (r .reason) × Judging (now (net .entry)) (cube .mask) (cube .values) (now (cells .entry)) head (now (cells .exit)) (r .head) ⌝ }
-    ensures { λ r. ⌜ TablesGrown (formulaAt (now (net .entry))) (framesOf (now (net .entry))) (now (under .entry)) (kept .under) (now (over .entry)) (kept .over) (now (under .exit)) (r .kept .under) (now (over .exit)) (r .kept .over) ⌝ }
-    ensures { λ r. ⌜ Noted i (r .value) (cube .values) (now (under .exit)) (r .kept .under) (now (over .exit)) (r .kept .over) ⌝ }
+    ensures { λ r. ⌜ TablesGrown (netForm (now (net .entry))) (formulaAt (now (net .entry))) (framesOf (now (net .entry))) (now (under .entry)) (kept .under) (now (over .entry)) (kept .over) (now (under .exit)) (r .kept .under) (now (over .exit)) (r .kept .over) ⌝ }
+    ensures { λ r. ⌜ Noted (netForm (now (net .entry))) i (r .value) (cube .values) (now (under .exit)) (r .kept .under) (now (over .exit)) (r .kept .over) ⌝ }
 {
-    let known = recorded(i, cube.values, &under[..], &over[..], kept);
+    let form = net::form(net);
+    let known = recorded(form, i, cube.values, &under[..], &over[..], kept);
     if known.value != 0 {
         return Valued {
             value: known.value,
@@ -520,7 +520,7 @@ fn quantified(
     let s = choose(net, i, node, cube, 0, cells, wants, under, over, kept);
     let shown = body_shows(node, s.found, s.reason);
     let between = s.kept;
-    let after = note(i, shown, cube.values, under, over, between);
+    let after = note(form, i, shown, cube.values, under, over, between);
     Valued {
         value: shown.value,
         reason: shown.reason,

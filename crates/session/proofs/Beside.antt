@@ -10,6 +10,7 @@ use mir.Syntax.{w8}
 use mir.Val.{Val, vint}
 use denote.Ref.{RefT, now}
 use denote.Slice.{sliceVal}
+use Rattle.sheet.specs.Fields.{Sheet}
 use Rattle.net.specs.Layout.{freeOf}
 use Rattle.session.specs.Sound.{OnNet}
 use Rattle.session.specs.Step.{Step}
@@ -44,9 +45,9 @@ over-end ws = ws .1 .1 .1 .1 .1 .1 .0
 
 -- it is the net of some sheet
 abbrev pub Some : Session → RefT (List ℕ) → RefT (List ℕ) → RefT (List ℕ) → Type 0
-Some h n t z = (s : List ℕ) × OnNet s (now n) h (now t) (now z)
+Some h n t z = (s : Sheet) × OnNet s (now n) h (now t) (now z)
 
 -- the net is as before, and of every sheet whose net it is the line was answered
 abbrev pub Every : Session → Beside → Session → Answer → Ends → Type 0
 Every h (k, (a, (b, (c, (n, (t, (z, e))))))) r w ws =
-    (net-end ws ≡ now n) × ((s : List ℕ) → OnNet s (now n) h (now t) (now z) → Step s (freeOf (now n)) h (now t) (now z) k a b c r (under-end ws) (over-end ws) (w .number) (w .v) (w .word))
+    (net-end ws ≡ now n) × ((s : Sheet) → OnNet s (now n) h (now t) (now z) → Step s (freeOf (now n)) h (now t) (now z) k a b c r (under-end ws) (over-end ws) (w .number) (w .v) (w .word))

@@ -15,7 +15,9 @@ use Rattle.session.specs.declared.Entry.{Entry}
 use Rattle.session.specs.Model.{Meaning, noEntry, entered, enteredMask, enteredValues, Answer, answerBytes, told, Reply, ENTER, TAKE-BACK, READ, ASK, used, unknown, lastDesk, lineRefusal, obeyed, line, lineAt, after, answerAt}
 use Rattle.session.specs.Entries.{Entered, entryAt, bit-enteredMask}
 use Rattle.session.specs.Line.{Passes, refusal-none, line-refused, line-taken}
-use Rattle.session.specs.Script.{sixBytes, answerBytes-are, after-keeps}
+use Rattle.session.specs.Script.{eachByte, answerBytes-are, after-keeps}
+use Rattle.form.specs.declared.Form.{Form}
+use Rattle.form.specs.declared.Form.the-variants.{Narrow, Wide}
 
 -- ---- the definitions
 
@@ -51,23 +53,39 @@ pub record SameButDesk (k : ℕ) (x y : Answer) : Type 0 where
   pub low : x .word % 256 ≡ y .word % 256
   pub high : x .word / 2 ^ 16 ≡ y .word / 2 ^ 16
 
--- as bytes: all six where no entry is told, and always all but the fifth
-module _ (k : ℕ) (x y : Answer) (s : SameButDesk k x y) where
-  pub same-bytes : tellsEntry k ≡ false → answerBytes x ≡ answerBytes y
-  unfolding answerBytes
-  same-bytes t = rw (s .number, s .v, s .word t)
+-- the byte of an answer that tells a desk: the last but one
+abbrev pub deskByte : Form → ℕ
+deskByte Narrow = 4
+deskByte Wide = 8
 
-  pub bytes-but-fifth : (j : ℕ) → (j ≡ 4 → ⊥) → getD (answerBytes x) j 0 ≡ getD (answerBytes y) j 0
-  bytes-but-fifth j f = rw (answerBytes-are x, answerBytes-are y) (at j f)
+-- as bytes: all where no entry is told, and always all but that one
+module _ (k : ℕ) (x y : Answer) (s : SameButDesk k x y) where
+  pub same-bytes : (F : Form) → tellsEntry k ≡ false → answerBytes F x ≡ answerBytes F y
+  unfolding answerBytes
+  same-bytes F t = rw (s .number, s .v, s .word t)
+
+  pub bytes-but-desk : (F : Form) (j : ℕ) → (j ≡ deskByte F → ⊥) → getD (answerBytes F x) j 0 ≡ getD (answerBytes F y) j 0
+  bytes-but-desk F j f = rw (answerBytes-are F x, answerBytes-are F y) (at F j f)
     where
-      at : (j : ℕ) → (j ≡ 4 → ⊥) → getD (sixBytes x) j 0 ≡ getD (sixBytes y) j 0
-      at zero f = s .number
-      at (suc zero) f = s .v
-      at (suc (suc zero)) f = omega (arith, s .high)
-      at (suc (suc (suc zero))) f = omega (arith, s .high)
-      at (suc (suc (suc (suc zero)))) f = absurd (f refl)
-      at (suc (suc (suc (suc (suc zero))))) f = s .low
-      at (suc (suc (suc (suc (suc (suc j)))))) f = refl
+      at : (F : Form) (j : ℕ) → (j ≡ deskByte F → ⊥) → getD (eachByte F x) j 0 ≡ getD (eachByte F y) j 0
+      at Narrow zero f = s .number
+      at Narrow (suc zero) f = s .v
+      at Narrow (suc (suc zero)) f = omega (arith, s .high)
+      at Narrow (suc (suc (suc zero))) f = omega (arith, s .high)
+      at Narrow (suc (suc (suc (suc zero)))) f = absurd (f refl)
+      at Narrow (suc (suc (suc (suc (suc zero))))) f = s .low
+      at Narrow (suc (suc (suc (suc (suc (suc j)))))) f = refl
+      at Wide zero f = s .number
+      at Wide (suc zero) f = s .v
+      at Wide (suc (suc zero)) f = omega (arith, s .high)
+      at Wide (suc (suc (suc zero))) f = omega (arith, s .high)
+      at Wide (suc (suc (suc (suc zero)))) f = omega (arith, s .high)
+      at Wide (suc (suc (suc (suc (suc zero))))) f = omega (arith, s .high)
+      at Wide (suc (suc (suc (suc (suc (suc zero)))))) f = omega (arith, s .high)
+      at Wide (suc (suc (suc (suc (suc (suc (suc zero))))))) f = omega (arith, s .high)
+      at Wide (suc (suc (suc (suc (suc (suc (suc (suc zero)))))))) f = absurd (f refl)
+      at Wide (suc (suc (suc (suc (suc (suc (suc (suc (suc zero))))))))) f = s .low
+      at Wide (suc (suc (suc (suc (suc (suc (suc (suc (suc (suc j)))))))))) f = refl
 
 -- ---- entries that differ in their desks alone
 

@@ -232,6 +232,6 @@ module _ (n : ℕ) (f : Formula) {es : List Entry} (d : Entered (meaning n f) es
   pub values-lt : enteredValues es < 2 ^ n
   values-lt = omega (arith, sub-le (values-mask es), mask-lt)
 
-  -- at most as many entries stand as there are variables: a place fits a byte where n is 32
+  -- at most as many entries stand as there are variables: a place fits a byte where n is 32 or 64
   pub entries-at-most : length es ≤ n
   entries-at-most = entries-few n (opens-below n f) d

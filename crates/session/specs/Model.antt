@@ -7,6 +7,8 @@ use lib.ListN.{length, getD, take}
 use lib.Dec.{eqb, leb, ltb}
 use lib.Bits.{bitOr}
 use Rattle.words.specs.Bytes.{bytesOf}
+use Rattle.form.specs.Form.{wordBytes}
+use Rattle.form.specs.declared.Form.{Form}
 use Rattle.formula.specs.Formula.{Formula, free}
 use Rattle.formula.specs.Ask.{Verdict, ask}
 use Rattle.formula.specs.Why.{why}
@@ -59,15 +61,9 @@ pub record Answer : Type 0 where
   pub v : ℕ
   pub word : ℕ
 
-abbrev pub wordLength : ℕ
-wordLength = 4
-
--- how many bytes an answer has, and which
-abbrev pub answerLength : ℕ
-answerLength = 2 + wordLength
-
-unfoldable pub answerBytes : Answer → List ℕ
-answerBytes a = a .number ∷ a .v ∷ bytesOf wordLength (a .word)
+-- the bytes of an answer: two, and a word of the form
+unfoldable pub answerBytes : Form → Answer → List ℕ
+answerBytes F a = a .number ∷ a .v ∷ bytesOf (wordBytes F) (a .word)
 
 abbrev pub refused : ℕ → Answer
 refused number = record { number = number; v = 0; word = 0 }
@@ -167,13 +163,13 @@ unfoldable pub answerAt : Meaning → List Entry → List ℕ → ℕ → Answer
 answerAt m es s i = lineAt m s (after m es s i) i .answer
 
 -- the bytes of the first i answers
-unfoldable pub answersTo : Meaning → List Entry → List ℕ → ℕ → List ℕ
-answersTo m es s zero = []
-answersTo m es s (suc i) = answersTo m es s i ++ answerBytes (answerAt m es s i)
+unfoldable pub answersTo : Form → Meaning → List Entry → List ℕ → ℕ → List ℕ
+answersTo F m es s zero = []
+answersTo F m es s (suc i) = answersTo F m es s i ++ answerBytes F (answerAt m es s i)
 
 -- a whole script, from no entry: the bytes of its answers, and the entries that stand after it
-unfoldable pub answers : Meaning → List ℕ → List ℕ
-answers m s = answersTo m [] s (lines s)
+unfoldable pub answers : Form → Meaning → List ℕ → List ℕ
+answers F m s = answersTo F m [] s (lines s)
 
 unfoldable pub standing : Meaning → List ℕ → List Entry
 standing m s = after m [] s (lines s)

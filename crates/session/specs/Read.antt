@@ -1,5 +1,5 @@
 -- READ lines show every entry: two lists of entries are equal, or one READ line tells them apart. Assumes nothing.
-use Prim.Native.Nat.{ℕ, suc, _≤_, _<_}
+use Prim.Native.Nat.{_/_, _%_, _^_, ℕ, suc, _≤_, _<_}
 use native.Mathlib.Omega.{arith}
 use mathlib.Core.Path.{_≡_, refl, sym, ap, ap₂, _∙_}
 use mathlib.Core.Logic.{_⊎_, inl, inr, ⊎-elim}
@@ -9,10 +9,12 @@ use lib.Dec.{eqb, ltb}
 use Rattle.words.specs.Logic.{by-bool, tests}
 use Rattle.sheet.specs.Refusal as Number
 use Rattle.session.specs.declared.Entry.{Entry}
-use Rattle.session.specs.Model.{Meaning, answerBytes, Reply, told, refused, READ, line, lineAt, after, answerAt, answersTo}
+use Rattle.session.specs.Model.{Meaning, Answer, answerBytes, Reply, told, refused, READ, line, lineAt, after, answerAt, answersTo}
 use Rattle.session.specs.Entries.{Entered, entryAt}
 use Rattle.session.specs.Kinds.{read-line}
-use Rattle.session.specs.Script.{answerBytes-are}
+use Rattle.session.specs.Script.{eachByte, answerBytes-are}
+use Rattle.form.specs.declared.Form.{Form}
+use Rattle.form.specs.declared.Form.the-variants.{Narrow, Wide}
 use Rattle.session.specs.Refused.{read-past}
 
 -- ---- two lists are equal or have a first difference
@@ -60,42 +62,50 @@ abbrev pub readScript : ℕ → List ℕ
 readScript i = READ ∷ i ∷ 0 ∷ 0 ∷ []
 
 -- what it answers
-pub read-bytes : (m : Meaning) (es : List Entry) (i : ℕ) → answersTo m es (readScript i) 1 ≡ answerBytes (line m es READ i 0 0 .answer)
+pub read-bytes : (F : Form) (m : Meaning) (es : List Entry) (i : ℕ) → answersTo F m es (readScript i) 1 ≡ answerBytes F (line m es READ i 0 0 .answer)
 unfolding answersTo answerAt after lineAt
-read-bytes m es i = refl
+read-bytes F m es i = refl
+
+-- equal bytes have equal V, and words that are equal in their last two bytes
+told-v : (F : Form) (x y : Answer) → eachByte F x ≡ eachByte F y → x .v ≡ y .v
+told-v Narrow x y t = ap (λ (b : List ℕ). getD b 1 0) t
+told-v Wide x y t = ap (λ (b : List ℕ). getD b 1 0) t
+
+told-word : (F : Form) (x y : Answer) → eachByte F x ≡ eachByte F y → (x .word / 2 ^ 8 % 256 ≡ y .word / 2 ^ 8 % 256) × (x .word % 256 ≡ y .word % 256)
+told-word Narrow x y t = (ap (λ (b : List ℕ). getD b 4 0) t, ap (λ (b : List ℕ). getD b 5 0) t)
+told-word Wide x y t = (ap (λ (b : List ℕ). getD b 8 0) t, ap (λ (b : List ℕ). getD b 9 0) t)
 
 -- an entry's answer is that entry's alone
-told-entry : {m : Meaning} {es ds : List Entry} (i : ℕ) → Entered m es → Entered m ds → i < length es → i < length ds
-    → answerBytes (told (entryAt es i)) ≡ answerBytes (told (entryAt ds i)) → entryAt es i ≡ entryAt ds i
-told-entry i a b h l s =
-    let t = sym (answerBytes-are _) ∙ s ∙ answerBytes-are _ in
-    let w = ap (λ (b : List ℕ). getD b 5 0) t in
-    let k = ap (λ (b : List ℕ). getD b 4 0) t in
-    entry-is (ap (λ (b : List ℕ). getD b 1 0) t)
-    (omega (arith, w, a .valued i h, b .valued i l))
-    (omega (arith, k, a .valued i h, b .valued i l, a .desked i h, b .desked i l))
+told-entry : (F : Form) {m : Meaning} {es ds : List Entry} (i : ℕ) → Entered m es → Entered m ds → i < length es → i < length ds
+    → answerBytes F (told (entryAt es i)) ≡ answerBytes F (told (entryAt ds i)) → entryAt es i ≡ entryAt ds i
+told-entry F {es = es} {ds = ds} i a b h l s =
+    let t = sym (answerBytes-are F (told (entryAt es i))) ∙ s ∙ answerBytes-are F (told (entryAt ds i)) in
+    let w = told-word F (told (entryAt es i)) (told (entryAt ds i)) t in
+    entry-is (told-v F (told (entryAt es i)) (told (entryAt ds i)) t)
+    (omega (arith, w .1, a .valued i h, b .valued i l))
+    (omega (arith, w .0, a .valued i h, b .valued i l, a .desked i h, b .desked i l))
 
 -- and no refusal's
-told-refused : (e : Entry) (n : ℕ) → 0 < n → answerBytes (told e) ≡ answerBytes (refused n) → ⊥
+told-refused : (F : Form) (e : Entry) (n : ℕ) → 0 < n → answerBytes F (told e) ≡ answerBytes F (refused n) → ⊥
 unfolding answerBytes
-told-refused e n h s = let z : 0 ≡ n = ap (λ (b : List ℕ). getD b 0 0) s in omega arith
+told-refused F e n h s = let z : 0 ≡ n = ap (λ (b : List ℕ). getD b 0 0) s in omega arith
 
-module _ {m : Meaning} {es ds : List Entry} (a : Entered m es) (b : Entered m ds) (i : ℕ) (F : FirstDifference es ds i) where
-  pub read-shows : answersTo m es (readScript i) 1 ≡ answersTo m ds (readScript i) 1 → ⊥
+module _ (F : Form) {m : Meaning} {es ds : List Entry} (a : Entered m es) (b : Entered m ds) (i : ℕ) (D : FirstDifference es ds i) where
+  pub read-shows : answersTo F m es (readScript i) 1 ≡ answersTo F m ds (readScript i) 1 → ⊥
   read-shows s = by-bool (ltb i (length es))
       (λ t. by-bool (ltb i (length ds))
-      (λ u. F .apart (omega tests) (omega tests) (told-entry i a b (omega tests) (omega tests)
+      (λ u. D .apart (omega tests) (omega tests) (told-entry F i a b (omega tests) (omega tests)
       (sym (there es (omega tests)) ∙ bytes ∙ there ds (omega tests))))
-      (λ u. told-refused (entryAt es i) Number.noEntryThere (omega arith) (sym (there es (omega tests)) ∙ bytes ∙ past ds (omega tests))))
+      (λ u. told-refused F (entryAt es i) Number.noEntryThere (omega arith) (sym (there es (omega tests)) ∙ bytes ∙ past ds (omega tests))))
       (λ t. by-bool (ltb i (length ds))
-      (λ u. told-refused (entryAt ds i) Number.noEntryThere (omega arith) (sym (there ds (omega tests)) ∙ sym bytes ∙ past es (omega tests)))
-      (λ u. F .ends (omega (tests, F .reach)) (omega (tests, F .reach))))
+      (λ u. told-refused F (entryAt ds i) Number.noEntryThere (omega arith) (sym (there ds (omega tests)) ∙ sym bytes ∙ past es (omega tests)))
+      (λ u. D .ends (omega (tests, D .reach)) (omega (tests, D .reach))))
     where
-      bytes : answerBytes (line m es READ i 0 0 .answer) ≡ answerBytes (line m ds READ i 0 0 .answer)
-      bytes = sym (read-bytes m es i) ∙ s ∙ read-bytes m ds i
+      bytes : answerBytes F (line m es READ i 0 0 .answer) ≡ answerBytes F (line m ds READ i 0 0 .answer)
+      bytes = sym (read-bytes F m es i) ∙ s ∙ read-bytes F m ds i
 
-      there : (l : List Entry) → i < length l → answerBytes (line m l READ i 0 0 .answer) ≡ answerBytes (told (entryAt l i))
-      there l h = ap (λ (r : Reply). answerBytes (r .answer)) (read-line m l i h)
+      there : (l : List Entry) → i < length l → answerBytes F (line m l READ i 0 0 .answer) ≡ answerBytes F (told (entryAt l i))
+      there l h = ap (λ (r : Reply). answerBytes F (r .answer)) (read-line m l i h)
 
-      past : (l : List Entry) → length l ≤ i → answerBytes (line m l READ i 0 0 .answer) ≡ answerBytes (refused Number.noEntryThere)
-      past l h = ap (λ (r : Reply). answerBytes (r .answer)) (read-past m l i h)
+      past : (l : List Entry) → length l ≤ i → answerBytes F (line m l READ i 0 0 .answer) ≡ answerBytes F (refused Number.noEntryThere)
+      past l h = ap (λ (r : Reply). answerBytes F (r .answer)) (read-past m l i h)

@@ -7,23 +7,32 @@ use mathlib.Core.Path.{_≡_, refl, sym, ap, _∙_}
 use mathlib.Core.List.{List, [], _∷_, _++_, append-assoc, append-nil}
 use lib.ListN.{length, getD, take, drop, length-append, List·getD-append}
 use lib.Seq.{getD-append-add, take-at, drop-at}
-use Rattle.words.specs.Bytes.{bytesOf, four-bytes}
+use Rattle.words.specs.Bytes.{bytesOf, four-bytes, eight-bytes}
+use Rattle.form.specs.Form as Sizes
+use Rattle.form.specs.Form.{answerStart, answer-none, answer-next}
+use Rattle.form.specs.declared.Form.{Form}
+use Rattle.form.specs.declared.Form.the-variants.{Narrow, Wide}
 use Rattle.session.specs.declared.Entry.{Entry}
-use Rattle.session.specs.Model.{Meaning, Answer, answerLength, answerBytes, Reply, lines, lineAt, after, answerAt, answersTo, answers, standing}
+use Rattle.session.specs.Model.{Meaning, Answer, answerBytes, Reply, lines, lineAt, after, answerAt, answersTo, answers, standing}
 use Rattle.session.specs.Entries.{Entered, none-entered}
 use Rattle.session.specs.Invariant.{line-keeps}
 
--- an answer's six bytes
-abbrev pub sixBytes : Answer → List ℕ
-sixBytes a = a .number ∷ a .v ∷ a .word / 2 ^ 24 % 256 ∷ a .word / 2 ^ 16 % 256 ∷ a .word / 2 ^ 8 % 256 ∷ a .word % 256 ∷ []
+-- an answer's bytes one by one: six, or ten
+abbrev pub eachByte : Form → Answer → List ℕ
+eachByte Narrow a = a .number ∷ a .v ∷ a .word / 2 ^ 24 % 256 ∷ a .word / 2 ^ 16 % 256 ∷ a .word / 2 ^ 8 % 256 ∷ a .word % 256 ∷ []
+eachByte Wide a =
+    a .number ∷ a .v ∷ a .word / 2 ^ 56 % 256 ∷ a .word / 2 ^ 48 % 256 ∷ a .word / 2 ^ 40 % 256 ∷ a .word / 2 ^ 32 % 256
+    ∷ a .word / 2 ^ 24 % 256 ∷ a .word / 2 ^ 16 % 256 ∷ a .word / 2 ^ 8 % 256 ∷ a .word % 256 ∷ []
 
-pub answerBytes-are : (a : Answer) → answerBytes a ≡ sixBytes a
+pub answerBytes-are : (F : Form) (a : Answer) → answerBytes F a ≡ eachByte F a
 unfolding answerBytes
-answerBytes-are a = ap (λ (l : List ℕ). a .number ∷ a .v ∷ l) (four-bytes (a .word))
+answerBytes-are Narrow a = ap (λ (l : List ℕ). a .number ∷ a .v ∷ l) (four-bytes (a .word))
+answerBytes-are Wide a = ap (λ (l : List ℕ). a .number ∷ a .v ∷ l) (eight-bytes (a .word))
 
-pub length-answerBytes : (a : Answer) → length (answerBytes a) ≡ answerLength
+pub length-answerBytes : (F : Form) (a : Answer) → length (answerBytes F a) ≡ Sizes.answerBytes F
 unfolding answerBytes bytesOf
-length-answerBytes a = refl
+length-answerBytes Narrow a = refl
+length-answerBytes Wide a = refl
 
 -- ---- one line more, as code counts
 
@@ -36,54 +45,56 @@ module _ (m : Meaning) (es : List Entry) (s : List ℕ) where
   unfolding after
   after-next i = rw add-one
 
-  pub answers-none : answersTo m es s 0 ≡ []
-  unfolding answersTo
-  answers-none = refl
-
-  pub answers-next : (i : ℕ) → answersTo m es s (i + 1) ≡ answersTo m es s i ++ answerBytes (answerAt m es s i)
-  unfolding answersTo
-  answers-next i = rw add-one
-
   -- what is always so of the entries is so after every line
   pub after-keeps : Entered m es → (i : ℕ) → Entered m (after m es s i)
   unfolding after lineAt
   after-keeps d zero = d
   after-keeps d (suc i) = line-keeps m (after m es s i) _ _ _ _ (after-keeps d i)
 
-  -- an answer of six bytes a line
-  pub length-answersTo : (i : ℕ) → length (answersTo m es s i) ≡ answerLength * i
+module _ (F : Form) (m : Meaning) (es : List Entry) (s : List ℕ) where
+  pub answers-none : answersTo F m es s 0 ≡ []
   unfolding answersTo
-  length-answersTo zero = refl
-  length-answersTo (suc i) = rw (length-append, length-answerBytes, length-answersTo i) (omega arith)
+  answers-none = refl
 
-  answers-prefix : (i r : ℕ) → (rest : List ℕ) × (answersTo m es s (i + r) ≡ answersTo m es s i ++ rest)
+  pub answers-next : (i : ℕ) → answersTo F m es s (i + 1) ≡ answersTo F m es s i ++ answerBytes F (answerAt m es s i)
   unfolding answersTo
-  answers-prefix i zero = ([], rw add-zero (sym (append-nil (answersTo m es s i))))
+  answers-next i = rw add-one
+
+  -- an answer's bytes a line
+  pub length-answersTo : (i : ℕ) → length (answersTo F m es s i) ≡ answerStart F i
+  unfolding answersTo
+  length-answersTo zero = sym (answer-none F)
+  length-answersTo (suc i) =
+      rw (length-append, length-answerBytes F (answerAt m es s i), length-answersTo i) (sym (answer-next F i) ∙ ap (answerStart F) (add-one i))
+
+  answers-prefix : (i r : ℕ) → (rest : List ℕ) × (answersTo F m es s (i + r) ≡ answersTo F m es s i ++ rest)
+  unfolding answersTo
+  answers-prefix i zero = ([], rw add-zero (sym (append-nil (answersTo F m es s i))))
   answers-prefix i (suc r) =
       let p = answers-prefix i r in (
-        p .0 ++ answerBytes (answerAt m es s (i + r)),
-        rw (add-suc, p .1) (append-assoc (answersTo m es s i) (p .0) (answerBytes (answerAt m es s (i + r)))),
+        p .0 ++ answerBytes F (answerAt m es s (i + r)),
+        rw (add-suc, p .1) (append-assoc (answersTo F m es s i) (p .0) (answerBytes F (answerAt m es s (i + r)))),
       )
 
-  -- the answer of line i stands at six times i
-  pub answer-bytes : (i n : ℕ) → i < n → take answerLength (drop (answerLength * i) (answersTo m es s n)) ≡ answerBytes (answerAt m es s i)
+  -- the answer of line i stands at its place
+  pub answer-bytes : (i n : ℕ) → i < n → take (Sizes.answerBytes F) (drop (answerStart F i) (answersTo F m es s n)) ≡ answerBytes F (answerAt m es s i)
   unfolding answersTo
   answer-bytes i n h =
       let p = answers-prefix (suc i) (n - suc i) in
       let e : suc i + (n - suc i) ≡ n = omega arith in
-      let x = answerBytes (answerAt m es s i) in
-      let f : answersTo m es s n ≡ answersTo m es s i ++ (x ++ p .0) = (rw e at (p .1)) ∙ append-assoc (answersTo m es s i) x (p .0) in
-      rw f (ap (take answerLength) (drop-at (answersTo m es s i) (x ++ p .0) (answerLength * i) (length-answersTo i))
-      ∙ take-at x (p .0) answerLength (length-answerBytes (answerAt m es s i)))
+      let x = answerBytes F (answerAt m es s i) in
+      let f : answersTo F m es s n ≡ answersTo F m es s i ++ (x ++ p .0) = (rw e at (p .1)) ∙ append-assoc (answersTo F m es s i) x (p .0) in
+      rw f (ap (take (Sizes.answerBytes F)) (drop-at (answersTo F m es s i) (x ++ p .0) (answerStart F i) (length-answersTo i))
+      ∙ take-at x (p .0) (Sizes.answerBytes F) (length-answerBytes F (answerAt m es s i)))
 
 -- from no entry
 pub standing-keeps : (m : Meaning) (s : List ℕ) → Entered m (standing m s)
 unfolding standing
 standing-keeps m s = after-keeps m [] s (none-entered m) (lines s)
 
-pub length-answers : (m : Meaning) (s : List ℕ) → length (answers m s) ≡ answerLength * lines s
+pub length-answers : (F : Form) (m : Meaning) (s : List ℕ) → length (answers F m s) ≡ answerStart F (lines s)
 unfolding answers
-length-answers m s = length-answersTo m [] s (lines s)
+length-answers F m s = length-answersTo F m [] s (lines s)
 
 -- ---- two scripts in a row, the first of n whole lines
 
@@ -136,16 +147,16 @@ module _ (m : Meaning) (a b : List ℕ) (n : ℕ) (whole : length a ≡ 4 * n) w
       ap (λ (l : List Entry). lineAt m (a ++ b) l (n + i) .answer) (after-right es i)
       ∙ ap (λ (r : Reply). r .answer) (line-right (after m (after m es a n) b i) i)
 
-  pub answers-left : (es : List Entry) (i : ℕ) → i ≤ n → answersTo m es (a ++ b) i ≡ answersTo m es a i
+  pub answers-left : (F : Form) (es : List Entry) (i : ℕ) → i ≤ n → answersTo F m es (a ++ b) i ≡ answersTo F m es a i
   unfolding answersTo
-  answers-left es zero h = refl
-  answers-left es (suc i) h = rw (answers-left es i (omega arith), answer-left es i h)
+  answers-left F es zero h = refl
+  answers-left F es (suc i) h = rw (answers-left F es i (omega arith), answer-left es i h)
 
-  pub answers-right : (es : List Entry) (i : ℕ) → answersTo m es (a ++ b) (n + i) ≡ answersTo m es a n ++ answersTo m (after m es a n) b i
+  pub answers-right : (F : Form) (es : List Entry) (i : ℕ) → answersTo F m es (a ++ b) (n + i) ≡ answersTo F m es a n ++ answersTo F m (after m es a n) b i
   unfolding answersTo
-  answers-right es zero = rw add-zero (answers-left es n (omega arith) ∙ sym (append-nil (answersTo m es a n)))
-  answers-right es (suc i) = rw (add-suc, answers-right es i, answer-right es i)
-      (append-assoc (answersTo m es a n) (answersTo m (after m es a n) b i) (answerBytes (answerAt m (after m es a n) b i)))
+  answers-right F es zero = rw add-zero (answers-left F es n (omega arith) ∙ sym (append-nil (answersTo F m es a n)))
+  answers-right F es (suc i) = rw (add-suc, answers-right F es i, answer-right es i)
+      (append-assoc (answersTo F m es a n) (answersTo F m (after m es a n) b i) (answerBytes F (answerAt m (after m es a n) b i)))
 
 -- ---- a script and a further one
 
@@ -165,6 +176,6 @@ module _ (m : Meaning) (a b : List ℕ) (whole : Whole a) where
   unfolding standing
   standing-append = ap (after m [] (a ++ b)) lines-append ∙ after-right m a b (lines a) whole-lines [] (lines b)
 
-  pub answers-append : answers m (a ++ b) ≡ answers m a ++ answersTo m (standing m a) b (lines b)
+  pub answers-append : (F : Form) → answers F m (a ++ b) ≡ answers F m a ++ answersTo F m (standing m a) b (lines b)
   unfolding standing answers
-  answers-append = ap (answersTo m [] (a ++ b)) lines-append ∙ answers-right m a b (lines a) whole-lines [] (lines b)
+  answers-append F = ap (answersTo F m [] (a ++ b)) lines-append ∙ answers-right m a b (lines a) whole-lines F [] (lines b)

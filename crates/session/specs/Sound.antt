@@ -7,7 +7,8 @@ use mathlib.Core.List.{List, []}
 use lib.ListN.{length, take}
 use lib.Seq.{length-take-le, getD-take, take-take}
 use Rattle.words.specs.Word.{bit}
-use Rattle.sheet.specs.Rules.{variables}
+use Rattle.form.specs.Form.{few-variables}
+use Rattle.sheet.specs.Fields.{Sheet, variables}
 use Rattle.records.specs.Both.{tables-none}
 use Rattle.net.specs.Layout.{freeOf}
 use Rattle.net.specs.Sheet.{NetOf}
@@ -27,38 +28,38 @@ abbrev pub WordsKept : Session → Type 0
 WordsKept x = Words (standingOf x) (x .entered .mask) (x .entered .values)
 
 -- what the reference model takes from a sheet: the meaning of its last frame
-abbrev pub sheetMeaning : List ℕ → Meaning
-sheetMeaning s = meaning variables (root s)
+abbrev pub sheetMeaning : Sheet → Meaning
+sheetMeaning s = meaning (variables s) (root s)
 
 -- the array has its length, and as many entries stand as there are variables at most, each of one that no earlier entry has; their words are kept
 pub record Shaped (x : Session) : Type 0 where
-  pub cells : length (x .entries) ≡ 32
-  pub within : x .len ≤ 32
-  pub low : (i : ℕ) → i < x .len → entryAt (x .entries) i .variable < 32
+  pub cells : length (x .entries) ≡ 64
+  pub within : x .len ≤ 64
+  pub low : (i : ℕ) → i < x .len → entryAt (x .entries) i .variable < 64
   pub fresh : (i : ℕ) → i < x .len → entered (take i (x .entries)) (entryAt (x .entries) i .variable) ≡ false
   pub words : WordsKept x
 
 -- v is a variable, and no entry of it stands
 pub record Fresh (x : Session) (v : ℕ) : Type 0 where
-  pub low : v < 32
+  pub low : v < 64
   pub absent : entered (standingOf x) v ≡ false
 
 -- s with free is checked; entries are of open variables, distinct, and valued 0 or 1, and their words are kept; the counted records are within the
 -- tables u and o, and true
-pub record Sound (s : List ℕ) (free : ℕ) (x : Session) (u o : List ℕ) : Type 0 where
+pub record Sound (s : Sheet) (free : ℕ) (x : Session) (u o : List ℕ) : Type 0 where
   pub sheet : Checked s free
-  pub cells : length (x .entries) ≡ 32
-  pub within : x .len ≤ 32
+  pub cells : length (x .entries) ≡ 64
+  pub within : x .len ≤ 64
   pub entered : Entered (sheetMeaning s) (standingOf x)
   pub words : WordsKept x
   pub tables : Tables s u (x .under) o (x .over)
 
 -- ---- the entries
 
-pub length-standing : (x : Session) → length (x .entries) ≡ 32 → x .len ≤ 32 → length (standingOf x) ≡ x .len
+pub length-standing : (x : Session) → length (x .entries) ≡ 64 → x .len ≤ 64 → length (standingOf x) ≡ x .len
 length-standing x e h = length-take-le (x .len) (x .entries) (omega arith)
 
-module _ {s : List ℕ} {free : ℕ} {x : Session} {u o : List ℕ} (d : Sound s free x u o) where
+module _ {s : Sheet} {free : ℕ} {x : Session} {u o : List ℕ} (d : Sound s free x u o) where
   pub sound-length : length (standingOf x) ≡ x .len
   sound-length = length-standing x (d .cells) (d .within)
 
@@ -66,28 +67,28 @@ module _ {s : List ℕ} {free : ℕ} {x : Session} {u o : List ℕ} (d : Sound s
   sound-shaped = record {
     cells = d .cells;
     within = d .within;
-    low = λ i h. opens-below variables (root s) _ (rw (getD-take (x .len) (x .entries) i noEntry h) at (d .entered .opened i (rw sound-length h)));
+    low = λ i h. omega (arith, few-variables (s .form), opens-below (variables s) (root s) _ (rw (getD-take (x .len) (x .entries) i noEntry h) at (d .entered .opened i (rw sound-length h))));
     fresh = λ i h. rw (take-take i (x .len) (x .entries) (omega arith), getD-take (x .len) (x .entries) i noEntry h) at (not-earlier i (d .entered) (rw sound-length h));
     words = d .words;
   }
 
   -- what the model calls open is what the word of the free variables has
   pub sound-opens : {f : ℕ} → f ≡ free → (v : ℕ) → sheetMeaning s .opens v ≡ bit f v
-  sound-opens e v = sym (rw (e, d .sheet .opens) (bit-opens variables (root s) v))
+  sound-opens e v = sym (rw (e, d .sheet .opens) (bit-opens (variables s) (root s) v))
 
 -- ---- on the sheet's net
 
 -- a line is lent the net of the sheet, and the sheet's free variables stand in it
-pub record OnNet (s net : List ℕ) (x : Session) (u o : List ℕ) : Type 0 where
+pub record OnNet (s : Sheet) (net : List ℕ) (x : Session) (u o : List ℕ) : Type 0 where
   pub net-of : NetOf s net
   pub sound : Sound s (freeOf net) x u o
 
 -- as the solver wants its entries
-pub net-ready : {s net : List ℕ} {x : Session} {u o : List ℕ} → OnNet s net x u o → Ready s net (x .entered .mask) (x .entered .values) u (x .under) o (x .over)
+pub net-ready : {s : Sheet} {net : List ℕ} {x : Session} {u o : List ℕ} → OnNet s net x u o → Ready s net (x .entered .mask) (x .entered .values) u (x .under) o (x .over)
 net-ready {s} d = record {
   checked = d .sound .sheet;
   net-of = d .net-of;
-  entered = rw (d .sound .sheet .opens) (words-opened variables (root s) (d .sound .entered) (d .sound .words));
+  entered = rw (d .sound .sheet .opens) (words-opened (variables s) (root s) (d .sound .entered) (d .sound .words));
   valued = words-valued (d .sound .words);
   tables = d .sound .tables;
 }
@@ -95,7 +96,7 @@ net-ready {s} d = record {
 -- ---- no entry, and no record
 
 pub record Empty (x : Session) : Type 0 where
-  pub cells : length (x .entries) ≡ 32
+  pub cells : length (x .entries) ≡ 64
   pub none : x .len ≡ 0
   pub mask : x .entered .mask ≡ 0
   pub values : x .entered .values ≡ 0
@@ -110,7 +111,7 @@ unfolding enteredMask enteredValues
 empty-words e = rw (e .none) (record { mask-is = e .mask; values-are = e .values })
 
 -- the empty session is sound, with any tables
-pub empty-sound : {s : List ℕ} {free : ℕ} {x : Session} (u o : List ℕ) → Checked s free → Empty x → Sound s free x u o
+pub empty-sound : {s : Sheet} {free : ℕ} {x : Session} (u o : List ℕ) → Checked s free → Empty x → Sound s free x u o
 empty-sound {s} {x = x} u o k e = record {
   sheet = k;
   cells = e .cells;

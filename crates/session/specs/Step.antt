@@ -7,7 +7,7 @@ use lib.ListN.{length}
 use lib.Dec.{eqb}
 use Rattle.formula.specs.Ask.{Verdict, ask}
 use Rattle.formula.specs.Why.{why}
-use Rattle.sheet.specs.Rules.{variables}
+use Rattle.sheet.specs.Fields.{Sheet, variables}
 use Rattle.solver.specs.Contract.{root, TablesGrown, Promised}
 use Rattle.session.specs.declared.Entry.{Entry}
 use Rattle.session.specs.declared.Session.{Session}
@@ -15,14 +15,14 @@ use Rattle.session.specs.Model.{Answer, Reply, judged, enteredMask, ente
 use Rattle.session.specs.Sound.{standingOf, WordsKept, sheetMeaning, Sound}
 
 -- what ASK and WHY say of a sheet where the entries es stand
-abbrev pub askOf : List ℕ → List Entry → Verdict
-askOf s es = ask variables (root s) (enteredMask es) (enteredValues es)
+abbrev pub askOf : Sheet → List Entry → Verdict
+askOf s es = ask (variables s) (root s) (enteredMask es) (enteredValues es)
 
-abbrev pub whyOf : List ℕ → List Entry → Verdict
-whyOf s es = why variables (root s) (enteredMask es) (enteredValues es)
+abbrev pub whyOf : Sheet → List Entry → Verdict
+whyOf s es = why (variables s) (root s) (enteredMask es) (enteredValues es)
 
 -- document 01's promise after an ASK
-abbrev pub PromisedFor : List ℕ → List Entry → List ℕ → ℕ → List ℕ → ℕ → Type 0
+abbrev pub PromisedFor : Sheet → List Entry → List ℕ → ℕ → List ℕ → ℕ → Type 0
 PromisedFor s es u cu o co = Promised s (enteredMask es) (enteredValues es) (askOf s es) u cu o co
 
 -- an answer's number, V and word
@@ -33,8 +33,8 @@ pub record Tells (a : Answer) (number v word : ℕ) : Type 0 where
 
 -- x' has the entries es standing and keeps their words, and counts the records that x counts
 pub record Moved (x x' : Session) (es : List Entry) : Type 0 where
-  pub cells : length (x' .entries) ≡ 32
-  pub within : x' .len ≤ 32
+  pub cells : length (x' .entries) ≡ 64
+  pub within : x' .len ≤ 64
   pub stands : standingOf x' ≡ es
   pub words : WordsKept x'
   pub under : x' .under ≡ x .under
@@ -54,7 +54,7 @@ pub record Recounted (x : Session) (cu co : ℕ) (x' : Session) : Type 0 where
   pub over : x' .over ≡ co
 
 -- a line that searches: the verdict it tells, and the session and the tables after it
-pub record Searches (s : List ℕ) (x : Session) (u o : List ℕ) (a : Verdict) (x' : Session) (u' o' : List ℕ) (number v word : ℕ) : Type 0 where
+pub record Searches (s : Sheet) (x : Session) (u o : List ℕ) (a : Verdict) (x' : Session) (u' o' : List ℕ) (number v word : ℕ) : Type 0 where
   pub tells : Tells (judged a) number v word
   pub entries : x' .entries ≡ x .entries
   pub len : x' .len ≡ x .len
@@ -73,7 +73,7 @@ abbrev pub searches : ℕ → Bool
 searches k = eqb k ASK || eqb k WHY
 
 -- The line k a b c on the sheet s, whose free variables are free: session and tables at entry and, primed, at exit, and the answer.
-pub record Step (s : List ℕ) (free : ℕ) (x : Session) (u o : List ℕ) (k a b c : ℕ) (x' : Session) (u' o' : List ℕ) (number v word : ℕ) : Type 0 where
+pub record Step (s : Sheet) (free : ℕ) (x : Session) (u o : List ℕ) (k a b c : ℕ) (x' : Session) (u' o' : List ℕ) (number v word : ℕ) : Type 0 where
   -- the answer, and the entries that stand after it, are the reference model's
   pub tells : Tells (line (sheetMeaning s) (standingOf x) k a b c .answer) number v word
   pub stands : standingOf x' ≡ line (sheetMeaning s) (standingOf x) k a b c .entries

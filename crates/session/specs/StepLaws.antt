@@ -13,7 +13,9 @@ use Rattle.words.specs.Word.{bit}
 use Rattle.words.specs.Mask.{without-more}
 use Rattle.cube.specs.Cube.{Fixed, Freed, fixed-mask, fixed-values, freed-one}
 use Rattle.formula.specs.Ask.{Verdict}
-use Rattle.sheet.specs.Rules.{variables, spareSet}
+use Rattle.form.specs.Form.{few-variables}
+use Rattle.sheet.specs.Fields.{Sheet, variables}
+use Rattle.sheet.specs.Rules.{spareSet}
 use Rattle.records.specs.Both.{tables-same}
 use Rattle.solver.specs.Contract.{root, TablesGrown, Same}
 use Rattle.session.specs.declared.Entry.{Entry}
@@ -27,7 +29,7 @@ use Rattle.session.specs.Step.{askOf, whyOf, PromisedFor, Tells, Replies
 
 -- ---- the entries' words, one entry more and one less
 
-module _ {mask values mask' values' : ℕ} (es : List Entry) (e : Entry) (low : e .variable < 32) (absent : entered es (e .variable) ≡ false) where
+module _ {mask values mask' values' : ℕ} (es : List Entry) (e : Entry) (low : e .variable < 64) (absent : entered es (e .variable) ≡ false) where
   -- no value is replaced: no other entry is of the variable
   pub words-more : Words es mask values → Fixed 64 mask values (e .variable) (eqb (e .value) 1) mask' values' → Words (es ++ (e ∷ [])) mask' values'
   words-more w F =
@@ -51,7 +53,7 @@ module _ {mask values mask' values' : ℕ} (es : List Entry) (e : Entry) (low : 
 
 -- in a session: an entry put last, and the latest one struck
 module _ {x : Session} {mask' values' : ℕ} where
-  pub words-put : (e : Entry) → Shaped x → x .len < 32 → Fresh x (e .variable)
+  pub words-put : (e : Entry) → Shaped x → x .len < 64 → Fresh x (e .variable)
       → Fixed 64 (x .entered .mask) (x .entered .values) (e .variable) (eqb (e .value) 1) mask' values'
       → Words (take (x .len + 1) (set (x .entries) (x .len) e)) mask' values'
   words-put e d room f F =
@@ -80,7 +82,7 @@ same-tells s t = record {
 
 -- ---- a search, put together
 
-pub searched : {s u o u' o' : List ℕ} {x x' : Session} {a : Verdict} {holds : Bool} {word cu co number v w : ℕ}
+pub searched : {s : Sheet} {u o u' o' : List ℕ} {x x' : Session} {a : Verdict} {holds : Bool} {word cu co number v w : ℕ}
     → Same a holds word → TablesGrown s u (x .under) o (x .over) u' cu o' co → Recounted x cu co x'
     → Tells (judged (record { holds = holds; word = word })) number v w → Searches s x u o a x' u' o' number v w
 searched e k r t = record {
@@ -93,7 +95,7 @@ searched e k r t = record {
 
 -- ---- a line of each kind
 
-module _ {s : List ℕ} {free : ℕ} {x : Session} {u o : List ℕ} (d : Sound s free x u o) (k a b c : ℕ) where
+module _ {s : Sheet} {free : ℕ} {x : Session} {u o : List ℕ} (d : Sound s free x u o) (k a b c : ℕ) where
   abbrev es : List Entry
   es = standingOf x
 
@@ -139,13 +141,13 @@ module _ {s : List ℕ} {free : ℕ} {x : Session} {u o : List ℕ} (d : Sound s
     passes = refusal-none m es k a b c taken
 
     -- one more entry has its place
-    pub enter-room : k ≡ ENTER → x .len < 32
+    pub enter-room : k ≡ ENTER → x .len < 64
     enter-room e =
         let D = entered-more (record { variable = a; value = b; desk = c }) (d .entered) (passes .fresh e) (passes .opened e) (passes .valued e) (passes .desked e) in
-        omega (arith, simp length-append at (entries-at-most variables (root s) D), sound-length d)
+        omega (arith, simp length-append at (entries-at-most (variables s) (root s) D), sound-length d, few-variables (s .form))
 
     pub enter-fresh : k ≡ ENTER → Fresh x a
-    enter-fresh e = record { low = opens-below variables (root s) a (passes .opened e); absent = passes .fresh e }
+    enter-fresh e = record { low = omega (arith, few-variables (s .form), opens-below (variables s) (root s) a (passes .opened e)); absent = passes .fresh e }
 
     pub take-back-some : k ≡ TAKE-BACK → 0 < x .len
     take-back-some e = omega (arith, passes .standing e, sound-length d)

@@ -49,7 +49,7 @@ fn unknown(k: u8, a: u8, b: u8, c: u8) -> bool
     if k > WHY {
         return true;
     }
-    sheet::spare_set(used(k), a, b, c)
+    sheet::spare_set(used(k), a as u16, b as u16, c as u16)
 }
 
 // Whether the word has the variable; one past the last place it has not.

@@ -20,7 +20,7 @@ pub fn empty() -> Session
         desk: 0,
     };
     Session {
-        entries: [none; 32],
+        entries: [none; 64],
         len: 0,
         entered: Cube64::UNFIXED,
         under: 0,
@@ -30,7 +30,7 @@ pub fn empty() -> Session
 
 // The entry put last. Here alone an entry comes to stand.
 pub fn append(session: Session, entry: Entry) -> Session
-    requires { ⌜ Shaped session × (session .len < 32) × Fresh session (entry .variable) ⌝ }
+    requires { ⌜ Shaped session × (session .len < 64) × Fresh session (entry .variable) ⌝ }
     ensures { λ r. ⌜ Moved session r (standingOf session ++ (entry ∷ [])) ⌝ }
 {
     let mut longer = session;

@@ -16,7 +16,7 @@ pub struct Entry {
 // The first `len` entries stand, oldest first, and `entered` fixes their variables at their values, so that no line walks them; the first `under` and
 // `over` records of the two tables count.
 pub struct Session {
-    pub entries: [Entry; 32],
+    pub entries: [Entry; 64],
     pub len: usize,
     pub entered: Cube64,
     pub under: usize,

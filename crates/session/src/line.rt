@@ -1,8 +1,9 @@
 // One script line by value.
 ghost use mathlib.Core.Path.{_≡_};
-ghost use mathlib.Core.List.{List, [], _∷_, _++_};
-ghost use Prim.Native.Nat.{ℕ, _+_, _-_, _<_};
+ghost use mathlib.Core.List.{[], _∷_, _++_};
+ghost use Prim.Native.Nat.{_+_, _-_, _<_};
 ghost use lib.ListN.{length, take};
+ghost use Rattle.sheet.specs.Fields.{Sheet};
 ghost use Rattle.net.specs.Layout.{freeOf};
 ghost use Rattle.session.specs.Model.{reply, refused, counted, told, judged};
 ghost use Rattle.session.specs.Entries.{entryAt};
@@ -48,7 +49,7 @@ fn tell_entry(entry: Entry) -> Answer
 }
 
 fn enter(session: Session, variable: u8, value: u8, desk: u8) -> Stepped
-    requires { ⌜ Shaped session × (session .len < 32) × Fresh session variable ⌝ }
+    requires { ⌜ Shaped session × (session .len < 64) × Fresh session variable ⌝ }
     ensures { λ r. ⌜ Replies session (reply (counted (length (standingOf session) + 1)) (standingOf session ++ (record { variable = variable; value = value; desk = desk } ∷ []))) (r .session) (r .answer .number) (r .answer .v) (r .answer .word) ⌝ }
 {
     let n = session.len + 1;
@@ -120,9 +121,9 @@ fn recount(session: Session, under: usize, over: usize) -> Session
 }
 
 fn ask(session: Session, net: &mut [u64], under: &mut [u32], over: &mut [u32]) -> Stepped
-    requires { ⌜ ((s : List ℕ) × OnNet s (now net) session (now under) (now over)) ⌝ }
+    requires { ⌜ ((s : Sheet) × OnNet s (now net) session (now under) (now over)) ⌝ }
     ensures { λ r. ⌜ now (net .exit) ≡ now (net .entry) ⌝ }
-    ensures { λ r. ⌜ ((s : List ℕ) → OnNet s (now (net .entry)) session (now (under .entry)) (now (over .entry)) → Searches s session (now (under .entry)) (now (over .entry)) (askOf s (standingOf session)) (r .session) (now (under .exit)) (now (over .exit)) (r .answer .number) (r .answer .v) (r .answer .word) × PromisedFor s (standingOf session) (now (under .exit)) (r .session .under) (now (over .exit)) (r .session .over)) ⌝ }
+    ensures { λ r. ⌜ ((s : Sheet) → OnNet s (now (net .entry)) session (now (under .entry)) (now (over .entry)) → Searches s session (now (under .entry)) (now (over .entry)) (askOf s (standingOf session)) (r .session) (now (under .exit)) (now (over .exit)) (r .answer .number) (r .answer .v) (r .answer .word) × PromisedFor s (standingOf session) (now (under .exit)) (r .session .under) (now (over .exit)) (r .session .over)) ⌝ }
 {
     let kept = Counts {
         under: session.under,
@@ -140,9 +141,9 @@ fn ask(session: Session, net: &mut [u64], under: &mut [u32], over: &mut [u32]) -
 }
 
 fn why(session: Session, net: &mut [u64], under: &mut [u32], over: &mut [u32]) -> Stepped
-    requires { ⌜ ((s : List ℕ) × OnNet s (now net) session (now under) (now over)) ⌝ }
+    requires { ⌜ ((s : Sheet) × OnNet s (now net) session (now under) (now over)) ⌝ }
     ensures { λ r. ⌜ now (net .exit) ≡ now (net .entry) ⌝ }
-    ensures { λ r. ⌜ ((s : List ℕ) → OnNet s (now (net .entry)) session (now (under .entry)) (now (over .entry)) → Searches s session (now (under .entry)) (now (over .entry)) (whyOf s (standingOf session)) (r .session) (now (under .exit)) (now (over .exit)) (r .answer .number) (r .answer .v) (r .answer .word)) ⌝ }
+    ensures { λ r. ⌜ ((s : Sheet) → OnNet s (now (net .entry)) session (now (under .entry)) (now (over .entry)) → Searches s session (now (under .entry)) (now (over .entry)) (whyOf s (standingOf session)) (r .session) (now (under .exit)) (now (over .exit)) (r .answer .number) (r .answer .v) (r .answer .word)) ⌝ }
 {
     let kept = Counts {
         under: session.under,
@@ -170,8 +171,8 @@ pub fn step(
     under: &mut [u32],
     over: &mut [u32],
 ) -> Stepped
-    requires { ⌜ ((s : List ℕ) × OnNet s (now net) session (now under) (now over)) ⌝ }
-    ensures { λ r. ⌜ (now (net .exit) ≡ now (net .entry)) × ((s : List ℕ) → OnNet s (now (net .entry)) session (now (under .entry)) (now (over .entry)) → Step s (freeOf (now (net .entry))) session (now (under .entry)) (now (over .entry)) k a b c (r .session) (now (under .exit)) (now (over .exit)) (r .answer .number) (r .answer .v) (r .answer .word)) ⌝ }
+    requires { ⌜ ((s : Sheet) × OnNet s (now net) session (now under) (now over)) ⌝ }
+    ensures { λ r. ⌜ (now (net .exit) ≡ now (net .entry)) × ((s : Sheet) → OnNet s (now (net .entry)) session (now (under .entry)) (now (over .entry)) → Step s (freeOf (now (net .entry))) session (now (under .entry)) (now (over .entry)) k a b c (r .session) (now (under .exit)) (now (over .exit)) (r .answer .number) (r .answer .v) (r .answer .word)) ⌝ }
 {
     let number = causes::line_cause(session, net::free(&net[..]), k, a, b, c);
     if number != 0 {

@@ -1,1 +1,2 @@
 pub mod ReaderCalls
+pub mod Relent

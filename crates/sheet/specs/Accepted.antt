@@ -1,12 +1,12 @@
 -- A sheet is accepted exactly if it keeps document 01's rules, and refused by a number at a place exactly if that cause holds and none
 -- earlier in the order does; what the layers above use of a sheet that is accepted. Assumes nothing.
-use Prim.Native.Nat.{ℕ, zero, suc, _+_, _*_, _%_, _≤_, _<_}
+use Prim.Native.Nat.{ℕ, zero, suc, _+_, _≤_, _<_}
 use native.Mathlib.Omega.{arith}
 use mathlib.Core.Path.{_≡_, refl, sym, _∙_, ap, subst}
 use mathlib.Core.Bool.{true, false, not, _&&_, _||_}
 use mathlib.Core.Logic.{inl, inr, ⊎-elim, _↔_}
 use mathlib.Core.List.{List, [], _∷_, List·Memᴰ, List·Memᴰ·head, List·Memᴰ·tail, List·Memᴰ·cases-cons, List·Memᴰ·not-nil}
-use lib.ListN.{length, getD}
+use lib.ListN.{length}
 use lib.Dec.{eqb, leb, ltb}
 use borrow.Author.Tests.{ne-eqb, eq-eqb, le-leb, le-ltb, lt-leb}
 use Rattle.words.specs.Logic.{by-bool, clash, or-false, not-false, tests}
@@ -14,8 +14,12 @@ use Rattle.formula.specs.Formula.{Formula, free}
 use Rattle.formula.specs.Ask.{Bounded}
 use Rattle.formula.specs.FreeMask.{bounded-never, bounded-input, bounded-neg, bounded-gate, bounded-quant}
 use Rattle.sheet.specs.Cause.{Refusal, accepted, someHolds, Foremost, some-append, none-first, first-none, foremost-exactly}
-use Rattle.sheet.specs.Frames.{frames, kind, formula, formulaOf, build, Fit, Ordered, formula-is, kind-at, kind-past}
-use Rattle.sheet.specs.Rules.{variables, mostFrames, last, used, spareSet, names, someLate, badVariables, binds, boundBefore, lengthCauses, sizeCauses, causesBelow, rootCauses, frameCauses, sheetCauses, sheetRefusal}
+use Rattle.form.specs.Form.{rest, rest-whole, whole-rest, whole-frames, frames-some}
+use Rattle.form.specs.Form as Sizes
+use Rattle.form.specs.declared.Form.{Form}
+use Rattle.sheet.specs.Fields.{Sheet, frames, mostFrames, variables, kind}
+use Rattle.sheet.specs.Frames.{formula, formulaOf, build, Fit, Ordered, formula-is, kind-past}
+use Rattle.sheet.specs.Rules.{last, spareSet, names, someLate, badVariables, binds, boundBefore, lengthCauses, sizeCauses, causesBelow, rootCauses, frameCauses, sheetCauses, sheetRefusal}
 use Rattle.sheet.specs.RuleLaws.{bound-by, by-bound, range-fits, fits-range, binds-low, meet-none, none-meet, CleanAt, below-clean, clean-below, below-ordered, sheet-numbered}
 use Rattle.sheet.specs.Keeps.{Quantifies, Keeps}
 use Rattle.sheet.specs.declared.Kind.{Kind}
@@ -23,25 +27,30 @@ use Rattle.sheet.specs.declared.Kind.the-variants.{Never, Input, Not, An
 
 -- ---- each rule and its test
 
-pub record Sized (s : List ℕ) : Type 0 where
-  pub whole : 4 * frames s ≡ length s
+pub record Sized (s : Sheet) : Type 0 where
+  pub whole : Sizes.frameStart (s .form) (frames s) ≡ length (s .bytes)
   pub least : 0 < frames s
-  pub most : frames s ≤ mostFrames
+  pub most : frames s ≤ mostFrames s
 
-pub none-sized : (s : List ℕ) → someHolds (sizeCauses s) ≡ false → Sized s
+pub none-sized : (s : Sheet) → someHolds (sizeCauses s) ≡ false → Sized s
 unfolding someHolds lengthCauses
 none-sized s e =
-    let p = or-false (eqb (length s) 0 || not (eqb (length s % 4) 0)) _ e in
-    let q = or-false (eqb (length s) 0) (not (eqb (length s % 4) 0)) (p .0) in
-    let t = or-false (ltb 200 (frames s)) false (p .1) in
-    let r = not-false (eqb (length s % 4) 0) (q .1) in
-    record { whole = omega (tests, q .0, r); least = omega (tests, q .0, r); most = omega (tests, t .0) }
+    let n = length (s .bytes) in
+    let p = or-false (eqb n 0 || not (eqb (rest (s .form) n) 0)) _ e in
+    let q = or-false (eqb n 0) (not (eqb (rest (s .form) n) 0)) (p .0) in
+    let t = or-false (ltb (mostFrames s) (frames s)) false (p .1) in
+    let r = not-false (eqb (rest (s .form) n) 0) (q .1) in
+    let z : rest (s .form) n ≡ 0 = omega (tests, r) in
+    record { whole = rest-whole (s .form) n z; least = whole-frames (s .form) n (λ z. omega (tests, q .0)) z; most = omega (tests, t .0) }
 
-pub sized-none : (s : List ℕ) → Sized s → someHolds (sizeCauses s) ≡ false
+pub sized-none : (s : Sheet) → Sized s → someHolds (sizeCauses s) ≡ false
 unfolding someHolds lengthCauses
 sized-none s z =
-    let w = z .whole in
-    rw (ne-eqb (length s) 0 (λ e. omega (arith, z .least, w)), eq-eqb (length s % 4) 0 (omega (arith, w)), le-ltb 200 (frames s) (z .most))
+    rw (
+      ne-eqb (length (s .bytes)) 0 (frames-some (s .form) (length (s .bytes)) (z .least)),
+      eq-eqb (rest (s .form) (length (s .bytes))) 0 (whole-rest (s .form) (length (s .bytes)) (z .whole)),
+      le-ltb (mostFrames s) (frames s) (z .most),
+    )
 
 spare-zero : (n a b c : ℕ) → spareSet n a b c ≡ false → ((n < 1 → a ≡ 0) × (n < 2 → b ≡ 0) × (n < 3 → c ≡ 0))
 unfolding spareSet
@@ -72,34 +81,32 @@ unfolding someLate
 none-late k [] h = refl
 none-late k (x ∷ l) h = rw (lt-leb k x (h x (List·Memᴰ·head refl)), none-late k l (λ a m. h a (List·Memᴰ·tail m)))
 
-variables-good : (d : Kind) → ((x : ℕ) → d ≡ Input x → x ≤ 31) → ((a b c : ℕ) → Quantifies d a b c → (1 ≤ c) × (c ≤ 32) × (b + c ≤ 32))
-    → badVariables d ≡ false
+variables-good : (F : Form) (d : Kind) → ((x : ℕ) → d ≡ Input x → x < Sizes.variables F)
+    → ((a b c : ℕ) → Quantifies d a b c → (1 ≤ c) × (c ≤ Sizes.variables F) × (b + c ≤ Sizes.variables F)) → badVariables F d ≡ false
 unfolding badVariables
-variables-good Never f g = refl
-variables-good (Input x) f g = lt-leb 32 x (omega (arith, f x refl))
-variables-good (Not a) f g = refl
-variables-good (And a b) f g = refl
-variables-good (Or a b) f g = refl
-variables-good (Exists a b c) f g = let r = g a b c (inl refl) in fits-range b c (r .0) (r .1) (r .2)
-variables-good (Forall a b c) f g = let r = g a b c (inr refl) in fits-range b c (r .0) (r .1) (r .2)
+variables-good F Never f g = refl
+variables-good F (Input x) f g = lt-leb (Sizes.variables F) x (f x refl)
+variables-good F (Not a) f g = refl
+variables-good F (And a b) f g = refl
+variables-good F (Or a b) f g = refl
+variables-good F (Exists a b c) f g = let r = g a b c (inl refl) in fits-range F b c (r .0) (r .1) (r .2)
+variables-good F (Forall a b c) f g = let r = g a b c (inr refl) in fits-range F b c (r .0) (r .1) (r .2)
 
-input-good : (d : Kind) (x : ℕ) → badVariables d ≡ false → d ≡ Input x → x ≤ 31
+input-good : (F : Form) (d : Kind) (x : ℕ) → badVariables F d ≡ false → d ≡ Input x → x < Sizes.variables F
 unfolding badVariables
-input-good d x e q = omega (tests, ap badVariables (sym q) ∙ e)
+input-good F d x e q = omega (tests, ap (badVariables F) (sym q) ∙ e)
 
-range-good : (d : Kind) (a b c : ℕ) → badVariables d ≡ false → Quantifies d a b c → (1 ≤ c) × (c ≤ 32) × (b + c ≤ 32)
+range-good : (F : Form) (d : Kind) (a b c : ℕ) → badVariables F d ≡ false → Quantifies d a b c → (1 ≤ c) × (c ≤ Sizes.variables F) × (b + c ≤ Sizes.variables F)
 unfolding badVariables
-range-good d a b c e (inl q) = range-fits b c (ap badVariables (sym q) ∙ e)
-range-good d a b c e (inr q) = range-fits b c (ap badVariables (sym q) ∙ e)
+range-good F d a b c e (inl q) = range-fits F b c (ap (badVariables F) (sym q) ∙ e)
+range-good F d a b c e (inr q) = range-fits F b c (ap (badVariables F) (sym q) ∙ e)
 
 -- ---- no cause holds exactly if the rules are kept
 
-module _ (s : List ℕ) where
+module _ (s : Sheet) where
   twice : (j k v : ℕ) → j < k → k < frames s → CleanAt s k → binds (kind s j) v ≡ true → binds (kind s k) v ≡ true → ⊥
   twice j k v h l g p q =
-      let e = kind-at s k l in
-      let q′ = ap (λ (d : Kind). binds d v) (sym e) ∙ q in
-      clash (boundBefore (kind s) k v) (bound-by (kind s) k j v h p) (none-meet _ _ (g .once) v (binds-low _ v (g .variable) q′) q′)
+      clash (boundBefore (kind s) k v) (bound-by (kind s) k j v h p) (none-meet (s .form) _ _ (g .once) v (binds-low (s .form) _ v (g .variable) q) q)
 
   keeps : Sized s → ((k : ℕ) → k < frames s → CleanAt s k) → someHolds (rootCauses s) ≡ false → Keeps s
   unfolding someHolds
@@ -109,42 +116,29 @@ module _ (s : List ℕ) where
         least = z .least;
         most = z .most;
         known = λ k h. omega (tests, g k h .known);
-        spare = λ k j h u l. spare-at k h (g k h) j u l;
-        earlier = λ k a h m. late-none k (names (kind s k)) (ap (λ (d : Kind). someLate k (names d)) (kind-at s k h) ∙ g k h .earlier) a m;
-        variable = λ k x h q. input-good (kind s k) x (good k h) q;
-        range = λ k a b c h q. range-good (kind s k) a b c (good k h) q;
+        spare-a = λ k h. spare-zero _ _ _ _ (g k h .spare) .0;
+        spare-b = λ k h. spare-zero _ _ _ _ (g k h .spare) .1;
+        spare-c = λ k h. spare-zero _ _ _ _ (g k h .spare) .2;
+        earlier = λ k a h m. late-none k (names (kind s k)) (g k h .earlier) a m;
+        variable = λ k x h q. input-good (s .form) (kind s k) x (g k h .variable) q;
+        range = λ k a b c h q. range-good (s .form) (kind s k) a b c (g k h .variable) q;
         once = λ j k v i h p q. one j k v i h p q;
-        closed = λ k v h p. none-meet _ _ (or-false _ false r .0) v (binds-low (kind s k) v (good k h) p) (bound-by (kind s) (frames s) k v h p);
+        closed = λ k v h p. none-meet (s .form) _ _ (or-false _ false r .0) v (binds-low (s .form) (kind s k) v (g k h .variable) p) (bound-by (kind s) (frames s) k v h p);
       }
     where
-      good : (k : ℕ) → k < frames s → badVariables (kind s k) ≡ false
-      good k h = ap badVariables (kind-at s k h) ∙ g k h .variable
-
       one : (j k v : ℕ) → j < frames s → k < frames s → binds (kind s j) v ≡ true → binds (kind s k) v ≡ true → j ≡ k
       one j k v i h p q = by-bool (ltb j k)
           (λ t. absurd (twice j k v (omega tests) h (g k h) p q))
           (λ t. by-bool (ltb k j) (λ u. absurd (twice k j v (omega tests) i (g j i) q p)) (λ u. omega tests))
 
-      spare-at : (k : ℕ) → k < frames s → CleanAt s k → (j : ℕ) → used (kind s k) < j → j < 4 → getD s (k * 4 + j) 0 ≡ 0
-      spare-at k h c zero u l = absurd (omega arith)
-      spare-at k h c (suc zero) u l = spare-zero _ _ _ _ (c .spare) .0 (omega (arith, ap used (kind-at s k h)))
-      spare-at k h c (suc (suc zero)) u l = spare-zero _ _ _ _ (c .spare) .1 (omega (arith, ap used (kind-at s k h)))
-      spare-at k h c (suc (suc (suc zero))) u l = spare-zero _ _ _ _ (c .spare) .2 (omega (arith, ap used (kind-at s k h)))
-      spare-at k h c (suc (suc (suc (suc j)))) u l = absurd (omega arith)
-
   clean : Keeps s → (k : ℕ) → k < frames s → CleanAt s k
   clean K k h =
-      let e = kind-at s k h in
-      let u = ap used e in
       record {
         known = le-ltb 6 _ (K .known k h);
-        spare = zero-spare _ _ _ _
-            (λ l. K .spare k 1 h (omega arith) (omega arith))
-            (λ l. K .spare k 2 h (omega arith) (omega arith))
-            (λ l. K .spare k 3 h (omega arith) (omega arith));
-        earlier = ap (λ (d : Kind). someLate k (names d)) (sym e) ∙ none-late k (names (kind s k)) (λ a m. K .earlier k a h m);
-        variable = ap badVariables (sym e) ∙ variables-good (kind s k) (λ x q. K .variable k x h q) (λ a b c q. K .range k a b c h q);
-        once = meet-none _ _ (λ v l p q. first-to-bind v (ap (λ (d : Kind). binds d v) e ∙ p) (by-bound (kind s) k v q));
+        spare = zero-spare _ _ _ _ (K .spare-a k h) (K .spare-b k h) (K .spare-c k h);
+        earlier = none-late k (names (kind s k)) (λ a m. K .earlier k a h m);
+        variable = variables-good (s .form) (kind s k) (λ x q. K .variable k x h q) (λ a b c q. K .range k a b c h q);
+        once = meet-none (s .form) _ _ (λ v l p q. first-to-bind v p (by-bound (kind s) k v q));
       }
     where
       first-to-bind : (v : ℕ) → binds (kind s k) v ≡ true → ((j : ℕ) × (j < k) × (binds (kind s j) v ≡ true)) → ⊥
@@ -152,7 +146,7 @@ module _ (s : List ℕ) where
 
   root : Keeps s → someHolds (rootCauses s) ≡ false
   unfolding someHolds
-  root K = rw (meet-none (boundBefore (kind s) (frames s)) (free (formula s (last s))) (λ v l p q. still-free v q (by-bound (kind s) (frames s) v p)))
+  root K = rw (meet-none (s .form) (boundBefore (kind s) (frames s)) (free (formula s (last s))) (λ v l p q. still-free v q (by-bound (kind s) (frames s) v p)))
     where
       still-free : (v : ℕ) → free (formula s (last s)) v ≡ true → ((j : ℕ) × (j < frames s) × (binds (kind s j) v ≡ true)) → ⊥
       still-free v q r = clash (free (formula s (last s)) v) q (K .closed (r .0) v (r .1) (r .2))
@@ -198,12 +192,12 @@ fit-past : (n k : ℕ) (d : Kind) → d ≡ Never → Fit n k d
 fit-past n k d e = subst (Fit n k) (sym e) tt
 
 -- every frame names only earlier frames and only the sheet's variables
-pub clean-ordered : (s : List ℕ) → ((k : ℕ) → k < frames s → CleanAt s k) → Ordered variables (kind s)
+pub clean-ordered : (s : Sheet) → ((k : ℕ) → k < frames s → CleanAt s k) → Ordered (variables s) (kind s)
 clean-ordered s g =
     record {
       fit = λ k. by-bool (ltb k (frames s))
           (λ t. below-ordered s (frames s) (omega arith) g k (omega tests))
-          (λ t. fit-past 32 k (kind s k) (kind-past s k (omega tests)));
+          (λ t. fit-past (variables s) k (kind s k) (kind-past s k (omega tests)));
     }
 
 build-bounded : (n k : ℕ) (g : ℕ → Formula) (d : Kind) → Fit n k d → ((a : ℕ) → a < k → Bounded n (g a)) → Bounded n (build g d)
@@ -227,20 +221,20 @@ pub ordered-bounded : (n : ℕ) (κ : ℕ → Kind) → Ordered n κ → (k : �
 ordered-bounded n κ o k = bounded-to n κ o (suc k) k (omega arith)
 
 -- all of it for a sheet that is accepted
-pub record Accepted (s : List ℕ) : Type 0 where
+pub record Accepted (s : Sheet) : Type 0 where
   pub sized : Sized s
-  pub ordered : Ordered variables (kind s)
-  pub bounded : (k : ℕ) → Bounded variables (formula s k)
+  pub ordered : Ordered (variables s) (kind s)
+  pub bounded : (k : ℕ) → Bounded (variables s) (formula s k)
 
-pub accepted-formula : {s : List ℕ} → Accepted s → (k : ℕ) → formula s k ≡ build (formula s) (kind s k)
-accepted-formula {s} A k = formula-is 32 (kind s) (A .ordered) k
+pub accepted-formula : {s : Sheet} → Accepted s → (k : ℕ) → formula s k ≡ build (formula s) (kind s k)
+accepted-formula {s} A k = formula-is (variables s) (kind s) (A .ordered) k
 
-pub none-accepted : (s : List ℕ) → someHolds (sizeCauses s) ≡ false → someHolds (frameCauses s) ≡ false → Accepted s
+pub none-accepted : (s : Sheet) → someHolds (sizeCauses s) ≡ false → someHolds (frameCauses s) ≡ false → Accepted s
 none-accepted s e h =
     let o = clean-ordered s (frames-clean s h .0) in
-    record { sized = none-sized s e; ordered = o; bounded = ordered-bounded 32 (kind s) o }
+    record { sized = none-sized s e; ordered = o; bounded = ordered-bounded (variables s) (kind s) o }
 
-pub accepted-sheet : (s : List ℕ) → sheetRefusal s .number ≡ 0 → Accepted s
+pub accepted-sheet : (s : Sheet) → sheetRefusal s .number ≡ 0 → Accepted s
 accepted-sheet s e =
     let p = or-false _ _ (sym (some-append (sizeCauses s) (frameCauses s)) ∙ first-none (sheetCauses s) (sheet-numbered s) e) in
     none-accepted s (p .0) (p .1)

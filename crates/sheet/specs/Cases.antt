@@ -9,20 +9,33 @@ use lib.Dec.{eqb}
 use Rattle.formula.specs.Assignment.{within}
 use Rattle.formula.specs.Formula.{free}
 use Rattle.sheet.specs.Cause.{first}
-use Rattle.sheet.specs.Frames.{kindOf, kind, build, tree, formulaOf}
-use Rattle.sheet.specs.Rules.{someBelow, used, spareSet, names, someLate, badRange, badVariables, binds, boundBefore, meet, lengthCauses, byteCauses, causesBelow, frameCauses, sheetRefusal}
+use Rattle.form.specs.declared.Form.the-variants.{Narrow, Wide}
+use Rattle.sheet.specs.Fields.{Sheet, sheetOf, fieldsAt, kindOf}
+use Rattle.sheet.specs.Frames.{build, tree, formulaOf}
+use Rattle.sheet.specs.Rules.{someBelow, used, spareSet, names, someLate, badRange, badVariables, binds, boundBefore, meet, lengthCauses, fieldCauses, causesBelow, frameCauses, sheetRefusal}
 
--- a sheet's bytes, and the number and place that it is refused by, or 0 and 0
+-- a sheet, and the number and place that it is refused by, or 0 and 0
 pub record Case : Type 0 where
-  pub sheet : List ℕ
+  pub sheet : Sheet
   pub number : ℕ
   pub place : ℕ
 
 case : List ℕ → ℕ → ℕ → Case
-case s n k = record { sheet = s; number = n; place = k }
+case s n k = record { sheet = sheetOf Narrow s; number = n; place = k }
+
+wide-case : List ℕ → ℕ → ℕ → Case
+wide-case s n k = record { sheet = sheetOf Wide s; number = n; place = k }
 
 frame : ℕ → ℕ → ℕ → ℕ → List ℕ
 frame k a b c = k ∷ (a ∷ (b ∷ (c ∷ [])))
+
+-- a wide frame; the last three are the fields' low bytes, the three before them the high ones
+wide-frame : ℕ → ℕ → ℕ → ℕ → ℕ → ℕ → ℕ → List ℕ
+wide-frame k ah bh ch a b c = k ∷ (ah ∷ (a ∷ (bh ∷ (b ∷ (ch ∷ (c ∷ []))))))
+
+-- INPUT 0, wide
+wide-input : List ℕ
+wide-input = wide-frame 1 0 0 0 0 0 0
 
 -- INPUT 0
 first-input : List ℕ
@@ -54,6 +67,23 @@ cases =
     ∷ (case (frame 1 40 0 0 ++ frame 9 0 0 0) 9 0
     ∷ [])))))))))))))))))))))
 
+-- the same where the form makes a difference
+pub wide-cases : List Case
+wide-cases =
+    wide-case [] 2 0
+    ∷ (wide-case (first-input ++ (0 ∷ 0 ∷ [])) 2 0
+    ∷ (wide-case wide-input 0 0
+    ∷ (wide-case (wide-frame 1 0 0 0 63 0 0) 0 0
+    ∷ (wide-case (wide-frame 1 0 0 0 64 0 0) 9 0
+    ∷ (wide-case (wide-frame 1 1 0 0 0 0 0) 9 0
+    ∷ (wide-case (wide-frame 1 0 1 0 0 0 0) 7 0
+    ∷ (wide-case (wide-input ++ wide-frame 2 1 0 0 0 0 0) 8 1
+    ∷ (wide-case (wide-input ++ wide-frame 5 0 0 0 0 0 64) 0 0
+    ∷ (wide-case (wide-input ++ wide-frame 5 0 0 0 0 1 64) 9 1
+    ∷ (wide-case (wide-input ++ wide-frame 5 0 0 1 0 0 0) 9 1
+    ∷ (wide-case (wide-input ++ (wide-frame 5 0 0 0 0 0 64 ++ wide-frame 6 0 0 0 1 63 1)) 10 2
+    ∷ [])))))))))))
+
 right : Case → Bool
 right c = eqb (sheetRefusal (c .sheet) .number) (c .number) && eqb (sheetRefusal (c .sheet) .place) (c .place)
 
@@ -61,6 +91,6 @@ pub all : List Case → Bool
 all [] = true
 all (c ∷ cs) = right c && all cs
 
-pub cases-right : all cases ≡ true
-unfolding first kindOf kind build tree formulaOf free within someBelow used spareSet names someLate badRange badVariables binds boundBefore meet lengthCauses byteCauses causesBelow frameCauses all cases right case frame first-input
-cases-right = refl
+pub cases-right : (all cases ≡ true) × (all wide-cases ≡ true)
+unfolding first fieldsAt kindOf build tree formulaOf free within someBelow used spareSet names someLate badRange badVariables binds boundBefore meet lengthCauses fieldCauses causesBelow frameCauses all cases wide-cases right case wide-case frame wide-frame first-input wide-input
+cases-right = (refl, refl)

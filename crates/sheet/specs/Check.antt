@@ -5,35 +5,40 @@ use mathlib.Core.Bool.{Bool, true, false, not, cond, _&&_}
 use mathlib.Core.List.{List, [], _∷_}
 use lib.ListN.{getD}
 use lib.Dec.{eqb, ltb}
-use lib.Bits.{bitAnd, bitOr}
+use native.Mathlib.Nat.{lt-of-le-of-lt}
+use lib.Pow.{pow-pos}
+use lib.Bits.{bitAnd, bitOr, and-le-l}
 use borrow.Author.Tests.{eq-eqb, eqb-true}
 use Rattle.words.specs.Logic.{by-bool, clash, tests}
 use Rattle.words.specs.Word.{bit, bit-and, bit-none, bit-high, ext}
-use Rattle.words.specs.Mask.{without, rangeMask, bit-rangeMask}
+use Rattle.words.specs.Mask.{without, rangeMask, bit-rangeMask, range-lt}
 use Rattle.formula.specs.Assignment.{within}
 use Rattle.formula.specs.Formula.{Formula}
 use Rattle.formula.specs.Ask.{freeMask}
 use Rattle.formula.specs.FreeMask.{freeMask-never, freeMask-input, freeMask-neg, freeMask-gate, freeMask-quant}
 use Rattle.sheet.specs.Cause.{Cause, Refusal, first, someHolds, Numbered, Foremost, first-none, none-first, first-foremost}
 use Rattle.sheet.specs.Refusal as Number
+use Rattle.form.specs.Form.{variables}
+use Rattle.sheet.specs.Fields.{Sheet}
 use Rattle.sheet.specs.Frames.{formula, build, Fit}
-use Rattle.sheet.specs.Rules.{variables, last, badVariables, cause, binds, meet}
-use Rattle.sheet.specs.RuleLaws.{meet-none, none-meet}
+use Rattle.sheet.specs.Rules.{last, badVariables, cause, binds, meet}
+use Rattle.sheet.specs.RuleLaws.{meet-none, none-meet, range-fits}
+use Rattle.form.specs.declared.Form.{Form}
 use Rattle.sheet.specs.declared.Kind.{Kind}
 use Rattle.sheet.specs.declared.Kind.the-variants.{Never, Input, Not, And, Or, Exists, Forall}
 
 -- the answer of a check by the causes cs: the first that holds, and the free variables of the last frame if none does
-pub record Checks (cs : List Cause) (s : List ℕ) (number place word : ℕ) : Type 0 where
+pub record Checks (cs : List Cause) (s : Sheet) (number place word : ℕ) : Type 0 where
   pub number-is : number ≡ first cs .number
   pub place-is : place ≡ first cs .place
-  pub free-is : word ≡ cond (someHolds cs) 0 (freeMask variables (formula s (last s)))
+  pub free-is : word ≡ cond (someHolds cs) 0 (freeMask (variables (s .form)) (formula s (last s)))
 
-module _ {cs : List Cause} {s : List ℕ} {n p f : ℕ} (c : Checks cs s n p f) where
+module _ {cs : List Cause} {s : Sheet} {n p f : ℕ} (c : Checks cs s n p f) where
   -- number 0: no cause holds, and the word is that of the last frame's free variables
   pub checks-none : Numbered cs → n ≡ 0 → someHolds cs ≡ false
   checks-none m z = first-none cs m (sym (c .number-is) ∙ z)
 
-  pub checks-free : someHolds cs ≡ false → f ≡ freeMask variables (formula s (last s))
+  pub checks-free : someHolds cs ≡ false → f ≡ freeMask (variables (s .form)) (formula s (last s))
   checks-free e = c .free-is ∙ rw e
 
   -- any other: the foremost cause is told, and the word is 0
@@ -49,7 +54,7 @@ module _ {cs : List Cause} {s : List ℕ} {n p f : ℕ} (c : Checks cs s n p f) 
   checks-unfree z = c .free-is ∙ rw (checks-some z)
 
 -- the same of an answer that has these parts
-pub same-checks : (cs : List Cause) (s : List ℕ) (n p f n′ p′ f′ : ℕ) → (n′ ≡ n) × (p′ ≡ p) × (f′ ≡ f) → Checks cs s n p f → Checks cs s n′ p′ f′
+pub same-checks : (cs : List Cause) (s : Sheet) (n p f n′ p′ f′ : ℕ) → (n′ ≡ n) × (p′ ≡ p) × (f′ ≡ f) → Checks cs s n p f → Checks cs s n′ p′ f′
 same-checks cs s n p f n′ p′ f′ e c = record { number-is = e .0 ∙ c .number-is; place-is = e .1 ∙ c .place-is; free-is = e .2 ∙ c .free-is }
 
 -- ---- the variables that a kind binds, as a word
@@ -104,36 +109,51 @@ freeWord-is n k l g (Forall a b c) h w = ap (λ (x : ℕ). without x (rangeMask 
 
 -- ---- two sets of variables have one in common exactly if their words do
 
-pub meet-bits : (x y : ℕ) → y < 2 ^ 32 → meet (bit x) (bit y) ≡ not (eqb (bitAnd x y) 0)
-meet-bits x y h = by-bool (eqb (bitAnd x y) 0)
-    (λ e. rw e (meet-none (bit x) (bit y) (λ v l p q. clash (bit x v && bit y v) (rw (p, q)) (apart v (eqb-true (bitAnd x y) 0 e)))))
-    (λ e. rw e (by-bool (meet (bit x) (bit y)) (λ t. t) (λ t. clash (eqb (bitAnd x y) 0) (eq-eqb _ _ (none t)) e)))
+pub meet-bits : (F : Form) (x y : ℕ) → bitAnd x y < 2 ^ variables F → meet F (bit x) (bit y) ≡ not (eqb (bitAnd x y) 0)
+meet-bits F x y h = by-bool (eqb (bitAnd x y) 0)
+    (λ e. rw e (meet-none F (bit x) (bit y) (λ v l p q. clash (bit x v && bit y v) (rw (p, q)) (apart v (eqb-true (bitAnd x y) 0 e)))))
+    (λ e. rw e (by-bool (meet F (bit x) (bit y)) (λ t. t) (λ t. clash (eqb (bitAnd x y) 0) (eq-eqb _ _ (none t)) e)))
   where
     apart : (v : ℕ) → bitAnd x y ≡ 0 → (bit x v && bit y v) ≡ false
     apart v e = sym (bit-and x y v) ∙ ap (λ (w : ℕ). bit w v) e ∙ bit-none v
 
-    none : meet (bit x) (bit y) ≡ false → bitAnd x y ≡ 0
-    none t = ext (bitAnd x y) 0 (λ v. bit-and x y v ∙ by-bool (bit x v)
-        (λ p. rw p (by-bool (ltb v 32) (λ l. none-meet (bit x) (bit y) t v (omega tests) p) (λ l. bit-high 32 v h (omega tests)) ∙ sym (bit-none v)))
-        (λ p. rw p (sym (bit-none v))))
+    low : meet F (bit x) (bit y) ≡ false → (v : ℕ) → v < variables F → (bit x v && bit y v) ≡ false
+    low t v l = by-bool (bit x v) (λ p. rw p (none-meet F (bit x) (bit y) t v l p)) (λ p. rw p)
 
-pub meet-same : (p p′ q q′ : ℕ → Bool) → ((v : ℕ) → p v ≡ p′ v) → ((v : ℕ) → q v ≡ q′ v) → meet p q ≡ meet p′ q′
-meet-same p p′ q q′ f g = ap₂ meet (fun-ext f) (fun-ext g)
+    none : meet F (bit x) (bit y) ≡ false → bitAnd x y ≡ 0
+    none t = ext (bitAnd x y) 0 (λ v. by-bool (ltb v (variables F))
+        (λ l. bit-and x y v ∙ low t v (omega tests))
+        (λ l. bit-high (variables F) v h (omega tests))
+        ∙ sym (bit-none v))
+
+pub meet-same : (F : Form) (p p′ q q′ : ℕ → Bool) → ((v : ℕ) → p v ≡ p′ v) → ((v : ℕ) → q v ≡ q′ v) → meet F p q ≡ meet F p′ q′
+meet-same F p p′ q q′ f g = ap₂ (meet F) (fun-ext f) (fun-ext g)
+
+-- the word of a kind whose variables are not bad is a word of the form
+pub bound-lt : (F : Form) (d : Kind) → badVariables F d ≡ false → boundMask d < 2 ^ variables F
+unfolding boundMask badVariables
+bound-lt F Never g = pow-pos (variables F)
+bound-lt F (Input x) g = pow-pos (variables F)
+bound-lt F (Not a) g = pow-pos (variables F)
+bound-lt F (And a b) g = pow-pos (variables F)
+bound-lt F (Or a b) g = pow-pos (variables F)
+bound-lt F (Exists a b c) g = range-lt (variables F) b c (range-fits F b c g .2)
+bound-lt F (Forall a b c) g = range-lt (variables F) b c (range-fits F b c g .2)
 
 -- as the words of a kind and of the variables bound before
-pub meet-bound : (d : Kind) (w r : ℕ) → w < 2 ^ 32 → r ≡ boundMask d → meet (binds d) (bit w) ≡ not (eqb (bitAnd r w) 0)
-meet-bound d w r h e =
-    meet-same (binds d) (bit (boundMask d)) (bit w) (bit w) (λ v. sym (bit-boundMask d v)) (λ v. refl)
-    ∙ meet-bits (boundMask d) w h ∙ ap (λ (x : ℕ). not (eqb (bitAnd x w) 0)) (sym e)
+pub meet-bound : (F : Form) (d : Kind) (w r : ℕ) → badVariables F d ≡ false → r ≡ boundMask d → meet F (binds d) (bit w) ≡ not (eqb (bitAnd r w) 0)
+meet-bound F d w r g e =
+    meet-same F (binds d) (bit (boundMask d)) (bit w) (bit w) (λ v. sym (bit-boundMask d v)) (λ v. refl)
+    ∙ meet-bits F (boundMask d) w (lt-of-le-of-lt (and-le-l (boundMask d) w) (bound-lt F d g)) ∙ ap (λ (x : ℕ). not (eqb (bitAnd x w) 0)) (sym e)
 
 -- ---- the last two causes of a frame, as a number
 
-unfoldable pub variablesFault : Kind → (ℕ → Bool) → ℕ
-variablesFault d p = cond (badVariables d) Number.rangeBroken (cond (meet (binds d) p) Number.boundTwice 0)
+unfoldable pub variablesFault : Form → Kind → (ℕ → Bool) → ℕ
+variablesFault F d p = cond (badVariables F d) Number.rangeBroken (cond (meet F (binds d) p) Number.boundTwice 0)
 
-pub first-variables : (d : Kind) (k : ℕ) (p : ℕ → Bool)
-    → first (cause (badVariables d) Number.rangeBroken k ∷ (cause (meet (binds d) p) Number.boundTwice k ∷ [])) .number ≡ variablesFault d p
+pub first-variables : (F : Form) (d : Kind) (k : ℕ) (p : ℕ → Bool)
+    → first (cause (badVariables F d) Number.rangeBroken k ∷ (cause (meet F (binds d) p) Number.boundTwice k ∷ [])) .number ≡ variablesFault F d p
 unfolding first variablesFault
-first-variables d k p = by-bool (badVariables d)
+first-variables F d k p = by-bool (badVariables F d)
     (λ e. rw e)
-    (λ e. rw e (by-bool (meet (binds d) p) (λ h. rw h) (λ h. rw h)))
+    (λ e. rw e (by-bool (meet F (binds d) p) (λ h. rw h) (λ h. rw h)))

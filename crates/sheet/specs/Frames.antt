@@ -1,36 +1,11 @@
--- What a sheet's bytes mean: the kind of each frame, and the formula that a frame stands for. Assumes nothing.
-use Prim.Native.Nat.{ℕ, zero, suc, _+_, _*_, _/_, _≤_, _<_}
+-- What a sheet means: the formula that a frame stands for. Assumes nothing.
+use Prim.Native.Nat.{ℕ, zero, suc, _+_, _≤_, _<_}
 use native.Mathlib.Omega.{arith}
 use mathlib.Core.Path.{_≡_, refl, ap, ap₂}
-use mathlib.Core.Bool.{cond}
-use mathlib.Core.List.{List}
-use lib.ListN.{length, getD}
-use lib.Dec.{eqb, ltb}
-use borrow.Author.Tests.{lt-ltb, le-ltb}
 use Rattle.formula.specs.Formula.{Formula, never, input, neg, and, or, exists, forall}
+use Rattle.sheet.specs.Fields.{Sheet, frames, kindOf, kind, fields-past}
 use Rattle.sheet.specs.declared.Kind.{Kind}
 use Rattle.sheet.specs.declared.Kind.the-variants.{Never, Input, Not, And, Or, Exists, Forall}
-
--- how many whole frames the bytes hold
-abbrev pub frames : List ℕ → ℕ
-frames s = length s / 4
-
--- the kind that a frame's four bytes say; a code above 6, which no accepted sheet has, gives Never
-unfoldable pub kindOf : ℕ → ℕ → ℕ → ℕ → Kind
-kindOf code a b c =
-    cond (eqb code 1) (Input a)
-    (cond (eqb code 2) (Not a)
-    (cond (eqb code 3) (And a b)
-    (cond (eqb code 4) (Or a b)
-    (cond (eqb code 5) (Exists a b c)
-    (cond (eqb code 6) (Forall a b c) Never)))))
-
--- the kind of frame k; past the end, Never
-unfoldable pub kind : List ℕ → ℕ → Kind
-kind s k =
-    cond (ltb k (frames s))
-    (kindOf (getD s (k * 4) 0) (getD s (k * 4 + 1) 0) (getD s (k * 4 + 2) 0) (getD s (k * 4 + 3) 0))
-    Never
 
 -- the formula of a kind, from those of the frames that it names
 unfoldable pub build : (ℕ → Formula) → Kind → Formula
@@ -51,7 +26,7 @@ tree (suc n) κ k = build (tree n κ) (κ k)
 unfoldable pub formulaOf : (ℕ → Kind) → ℕ → Formula
 formulaOf κ k = tree (suc k) κ k
 
-abbrev pub formula : List ℕ → ℕ → Formula
+abbrev pub formula : Sheet → ℕ → Formula
 formula s k = formulaOf (kind s) k
 
 -- the frames that a kind names stand before k, and its variables are below n
@@ -76,6 +51,15 @@ fit-later n k m (And a b) h w = (omega (arith, w .0), omega (arith, w .1))
 fit-later n k m (Or a b) h w = (omega (arith, w .0), omega (arith, w .1))
 fit-later n k m (Exists a b c) h w = (omega (arith, w .0), w .1)
 fit-later n k m (Forall a b c) h w = (omega (arith, w .0), w .1)
+
+pub fit-more : (n m k l : ℕ) (d : Kind) → n ≤ m → k ≤ l → Fit n k d → Fit m l d
+fit-more n m k l Never g h w = tt
+fit-more n m k l (Input x) g h w = omega arith
+fit-more n m k l (Not a) g h w = omega arith
+fit-more n m k l (And a b) g h w = (omega (arith, w .0), omega (arith, w .1))
+fit-more n m k l (Or a b) g h w = (omega (arith, w .0), omega (arith, w .1))
+fit-more n m k l (Exists a b c) g h w = (omega (arith, w .0), omega (arith, w .1))
+fit-more n m k l (Forall a b c) g h w = (omega (arith, w .0), omega (arith, w .1))
 
 build-same : (n : ℕ) (g h : ℕ → Formula) (k : ℕ) (d : Kind) → Fit n k d → ((a : ℕ) → a < k → g a ≡ h a) → build g d ≡ build h d
 unfolding build
@@ -107,11 +91,6 @@ formula-below w l κ o k h =
 pub formula-is : (w : ℕ) (κ : ℕ → Kind) → Ordered w κ → (k : ℕ) → formulaOf κ k ≡ build (formulaOf κ) (κ k)
 formula-is w κ o k = formula-below w (suc k) κ (λ j h. o .fit j) k (omega arith)
 
-pub kind-at : (s : List ℕ) (k : ℕ) → k < frames s
-    → kind s k ≡ kindOf (getD s (k * 4) 0) (getD s (k * 4 + 1) 0) (getD s (k * 4 + 2) 0) (getD s (k * 4 + 3) 0)
-unfolding kind
-kind-at s k h = rw (lt-ltb k (frames s) h)
-
-pub kind-past : (s : List ℕ) (k : ℕ) → frames s ≤ k → kind s k ≡ Never
-unfolding kind
-kind-past s k h = rw (le-ltb k (frames s) h)
+pub kind-past : (s : Sheet) (k : ℕ) → frames s ≤ k → kind s k ≡ Never
+unfolding kindOf
+kind-past s k h = ap kindOf (fields-past s k h)

@@ -1,5 +1,5 @@
 -- One pass over the frames: what holds before frame k, how it comes to hold before the next, and what the check answers. Assumes nothing.
-use Prim.Native.Nat.{ℕ, zero, suc, _+_, _≤_, _<_}
+use Prim.Native.Nat.{ℕ, zero, suc, _+_, _-_, _^_, _≤_, _<_}
 use native.Mathlib.Numerals.{add-one}
 use native.Mathlib.Omega.{arith}
 use mathlib.Core.Path.{_≡_, refl, sym, _∙_, ap, subst, fun-ext}
@@ -12,38 +12,43 @@ use lib.Bits.{bitOr}
 use Rattle.words.specs.Logic.{by-bool, clash, or-left, or-right, tests}
 use Rattle.words.specs.Word.{bit, bit-or, bit-none}
 use Rattle.formula.specs.Formula.{free}
-use Rattle.formula.specs.Ask.{freeMask, bit-free}
+use Rattle.formula.specs.Ask.{freeMask, freeMask-lt, bit-free}
 use Rattle.sheet.specs.Refusal as Number
 use Rattle.sheet.specs.Cause.{Cause, Refusal, first, someHolds, some-append, first-later, first-earlier, first-none, none-first}
-use Rattle.sheet.specs.Frames.{frames, kind, formula, Fit, fit-later, formula-below, kind-at}
-use Rattle.sheet.specs.Rules.{last, badVariables, boundBefore, meet, lengthCauses, sizeCauses, byteCauses, causesOf, causesAt, causesBelow, rootCauses, frameCauses, sheetCauses}
+use Rattle.form.specs.Form as Sizes
+use Rattle.form.specs.Form.{few-variables}
+use Rattle.sheet.specs.Fields.{Sheet, frames, mostFrames, variables, kind}
+use Rattle.sheet.specs.Frames.{formula, Fit, fit-later, fit-more, formula-below}
+use Rattle.sheet.specs.Rules.{last, badVariables, boundBefore, meet, lengthCauses, sizeCauses, fieldCauses, causesOf, causesAt, causesBelow, rootCauses, frameCauses, sheetCauses}
+use Rattle.form.specs.declared.Form.{Form}
+use Rattle.sheet.specs.declared.Fields.{Fields}
 use Rattle.sheet.specs.declared.Kind.{Kind}
-use Rattle.sheet.specs.RuleLaws.{CleanAt, none-clean, clean-below, below-ordered, byte-numbered, size-numbered}
+use Rattle.sheet.specs.RuleLaws.{CleanAt, none-clean, clean-below, below-ordered, field-numbered, size-numbered}
 use Rattle.sheet.specs.Accepted.{clean-ordered, ordered-bounded}
 use Rattle.sheet.specs.Check.{Checks, boundMask, bit-boundMask, freeWord, FreeBelow, freeWord-is, meet-same}
 
 -- before frame k: no cause holds below it, and the words of free and of bound variables are right
-pub record Passed (s words : List ℕ) (bound k : ℕ) : Type 0 where
-  pub most : frames s ≤ 200
-  pub room : length words ≡ 200
+pub record Passed (s : Sheet) (words : List ℕ) (bound k : ℕ) : Type 0 where
+  pub most : frames s ≤ mostFrames s
+  pub room : mostFrames s ≤ length words
   pub within : k ≤ frames s
   pub clean : (j : ℕ) → j < k → CleanAt s j
-  pub frees : FreeBelow 32 k words (formula s)
+  pub frees : FreeBelow (variables s) k words (formula s)
   pub bounds : (v : ℕ) → bit bound v ≡ boundBefore (kind s) k v
 
-pub passed-none : (s words : List ℕ) → frames s ≤ 200 → length words ≡ 200 → Passed s words 0 0
+pub passed-none : (s : Sheet) (words : List ℕ) → frames s ≤ mostFrames s → mostFrames s ≤ length words → Passed s words 0 0
 unfolding boundBefore
 passed-none s words m l =
     record { most = m; room = l; within = omega arith; clean = λ j h. absurd (omega arith); frees = λ a h. absurd (omega arith); bounds = λ v. bit-none v }
 
-module _ (s words : List ℕ) (bound k : ℕ) (P : Passed s words bound k) (h : k < frames s) where
+module _ (s : Sheet) (words : List ℕ) (bound k : ℕ) (P : Passed s words bound k) (h : k < frames s) where
   -- the causes at frame k, by the word of bound variables
   pub causes-same : causesOf s k (bit bound) ≡ causesAt s k
   causes-same = ap (causesOf s k) (fun-ext (P .bounds))
 
   pub fault-clean : first (causesOf s k (bit bound)) .number ≡ 0 → CleanAt s k
   fault-clean e =
-      none-clean _ _ _ _ k _ (first-none (causesAt s k) (byte-numbered _ _ _ _ k _) (ap (λ (l : List Cause). first l .number) (sym causes-same) ∙ e))
+      none-clean (s .form) _ k _ (first-none (causesAt s k) (field-numbered (s .form) _ k _) (ap (λ (l : List Cause). first l .number) (sym causes-same) ∙ e))
 
   module _ (g : CleanAt s k) where
     clean-next : (j : ℕ) → j < suc k → CleanAt s j
@@ -51,19 +56,19 @@ module _ (s words : List ℕ) (bound k : ℕ) (P : Passed s words bound k) (h : 
         (λ q. let e : k ≡ j = omega tests in subst (CleanAt s) e g)
         (λ q. P .clean j (omega tests))
 
-    pub fit-next : Fit 32 k (kind s k)
+    pub fit-next : Fit (variables s) k (kind s k)
     fit-next = below-ordered s (suc k) h clean-next k (omega arith)
 
-    free-next : freeWord words (kind s k) ≡ freeMask 32 (formula s k)
+    free-next : freeWord words (kind s k) ≡ freeMask (variables s) (formula s k)
     free-next =
-        freeWord-is 32 k words (formula s) (kind s k) (P .frees) fit-next
-        ∙ ap (freeMask 32) (sym (formula-below 32 (suc k) (kind s) (below-ordered s (suc k) h clean-next) k (omega arith)))
+        freeWord-is (variables s) k words (formula s) (kind s k) (P .frees) fit-next
+        ∙ ap (freeMask (variables s)) (sym (formula-below (variables s) (suc k) (kind s) (below-ordered s (suc k) h clean-next) k (omega arith)))
 
     pub pass-next : Passed s (set words k (freeWord words (kind s k))) (bitOr bound (boundMask (kind s k))) (k + 1)
     unfolding boundBefore
     pass-next = rw (add-one k) (record {
       most = P .most;
-      room = length-set words k _ ∙ P .room;
+      room = simp length-set (P .room);
       within = omega arith;
       clean = clean-next;
       frees = λ a l. by-bool (eqb a k)
@@ -72,13 +77,24 @@ module _ (s words : List ℕ) (bound k : ℕ) (P : Passed s words bound k) (h : 
       bounds = λ v. rw (bit-or, P .bounds v, bit-boundMask);
     })
 
--- the same of a kind that the code has read, and of the words that it has made
-module _ (s words : List ℕ) (bound k : ℕ) (P : Passed s words bound k) (h : k < frames s) (g : CleanAt s k) (d : Kind) (e : d ≡ kind s k) where
-  pub kind-fit : Fit 32 200 d
-  kind-fit = subst (Fit 32 200) (sym e) (fit-later 32 k 200 (kind s k) (omega (arith, P .most)) (fit-next s words bound k P h g))
+-- a word of the table is one of the form's
+pub passed-small : (s : Sheet) (words : List ℕ) (bound k a : ℕ) → Passed s words bound k → a < k → getD words a 0 < 2 ^ variables s
+passed-small s words bound k a P l = rw (P .frees a l) (freeMask-lt (variables s) (formula s a))
 
-  pub kind-range : badVariables d ≡ false
-  kind-range = ap badVariables (e ∙ kind-at s k h) ∙ g .variable
+-- the same of a form that the code has worked out
+pub small-of : {F : Form} (s : Sheet) (words : List ℕ) (bound k a : ℕ) → Passed s words bound k → a < k → F ≡ s .form → getD words a 0 < 2 ^ Sizes.variables F
+small-of s words bound k a P l e = rw e (passed-small s words bound k a P l)
+
+-- the same of a kind, a word and a range that the code has read
+module _ (s : Sheet) (words : List ℕ) (bound k : ℕ) (P : Passed s words bound k) (h : k < frames s) (g : CleanAt s k) (d : Kind) (e : d ≡ kind s k) where
+  pub kind-fit : Fit (variables s) (mostFrames s) d
+  kind-fit = subst (Fit (variables s) (mostFrames s)) (sym e) (fit-later (variables s) k (mostFrames s) (kind s k) (omega (arith, P .most)) (fit-next s words bound k P h g))
+
+  pub kind-room : Fit 64 (length words) d
+  kind-room = fit-more (variables s) 64 (mostFrames s) (length words) d (few-variables (s .form)) (P .room) kind-fit
+
+  pub kind-range : badVariables (s .form) d ≡ false
+  kind-range = ap (badVariables (s .form)) e ∙ g .variable
 
   pub pass-read : (l : List ℕ) (r : ℕ) → l ≡ set words k (freeWord words d) → r ≡ bitOr bound (boundMask d) → Passed s l r (k + 1)
   pass-read l r p q = rw (p, q, e) (pass-next s words bound k P h g)
@@ -97,11 +113,11 @@ place-of (c ∷ cs) k a e = by-bool (c .holds)
     (λ h. rw h (a .0))
     (λ h. rw h (place-of cs k (a .1) (ap (λ (t : Bool). t || someHolds cs) (sym h) ∙ e)))
 
-byte-place : (code a b c k : ℕ) (p : ℕ → Bool) → someHolds (byteCauses code a b c k p) ≡ true → first (byteCauses code a b c k p) .place ≡ k
-unfolding first someHolds byteCauses
-byte-place code a b c k p e = place-of (byteCauses code a b c k p) k (refl, (refl, (refl, (refl, (refl, tt))))) e
+field-place : (F : Form) (f : Fields) (k : ℕ) (p : ℕ → Bool) → someHolds (fieldCauses F f k p) ≡ true → first (fieldCauses F f k p) .place ≡ k
+unfolding first someHolds fieldCauses
+field-place F f k p e = place-of (fieldCauses F f k p) k (refl, (refl, (refl, (refl, (refl, tt))))) e
 
-module _ (s : List ℕ) (k : ℕ) (clean : (j : ℕ) → j < k → CleanAt s j) (e : someHolds (causesAt s k) ≡ true) where
+module _ (s : Sheet) (k : ℕ) (clean : (j : ℕ) → j < k → CleanAt s j) (e : someHolds (causesAt s k) ≡ true) where
   -- a cause at frame k comes before those of later frames
   holds-below : (m : ℕ) → k < m → someHolds (causesBelow s m) ≡ true
   unfolding causesBelow
@@ -117,7 +133,7 @@ module _ (s : List ℕ) (k : ℕ) (clean : (j : ℕ) → j < k → CleanAt s j) 
       (λ q. let w : m ≡ k = omega tests in rw w (first-later (causesBelow s k) (causesAt s k) (clean-below s k clean)))
       (λ q. let l : k < m = omega tests in first-earlier (causesBelow s m) (causesAt s m) (holds-below m l) ∙ first-below m l)
 
-module _ (s words : List ℕ) (bound k : ℕ) (P : Passed s words bound k) (h : k < frames s) where
+module _ (s : Sheet) (words : List ℕ) (bound k : ℕ) (P : Passed s words bound k) (h : k < frames s) where
   fault-holds : (n : ℕ) → n ≡ first (causesOf s k (bit bound)) .number → (n ≡ 0 → ⊥) → someHolds (causesAt s k) ≡ true
   fault-holds n e z = by-bool (someHolds (causesAt s k)) (λ t. t)
       (λ t. absurd (z (e ∙ ap (λ (l : List Cause). first l .number) (causes-same s words bound k P h)
@@ -132,33 +148,33 @@ module _ (s words : List ℕ) (bound k : ℕ) (P : Passed s words bound k) (h : 
       let f = first-earlier (causesBelow s (frames s)) (rootCauses s) below ∙ first-below s k (P .clean) t (frames s) h in
       record {
         number-is = e ∙ ap (λ (l : List Cause). first l .number) (causes-same s words bound k P h) ∙ ap (λ (r : Refusal). r .number) (sym f);
-        place-is = sym (ap (λ (r : Refusal). r .place) f ∙ byte-place _ _ _ _ k _ t);
+        place-is = sym (ap (λ (r : Refusal). r .place) f ∙ field-place (s .form) _ k _ t);
         free-is = rw (some-append (causesBelow s (frames s)) (rootCauses s), below);
       }
 
 -- what the last frame's words say: a bound variable is free, and it is refused; or the word is the answer
-pub record RootChecks (word bound place number at free : ℕ) : Type 0 where
-  pub number-is : number ≡ cond (meet (bit bound) (bit word)) Number.boundFree 0
-  pub place-is : at ≡ cond (meet (bit bound) (bit word)) place 0
-  pub free-is : free ≡ cond (meet (bit bound) (bit word)) 0 word
+pub record RootChecks (F : Form) (word bound place number at free : ℕ) : Type 0 where
+  pub number-is : number ≡ cond (meet F (bit bound) (bit word)) Number.boundFree 0
+  pub place-is : at ≡ cond (meet F (bit bound) (bit word)) place 0
+  pub free-is : free ≡ cond (meet F (bit bound) (bit word)) 0 word
 
-module _ (s words : List ℕ) (bound : ℕ) (P : Passed s words bound (frames s)) (h : 0 < frames s) where
+module _ (s : Sheet) (words : List ℕ) (bound : ℕ) (P : Passed s words bound (frames s)) (h : 0 < frames s) where
   abbrev word : ℕ
   word = getD words (last s) 0
 
-  word-mask : word ≡ freeMask 32 (formula s (last s))
+  word-mask : word ≡ freeMask (variables s) (formula s (last s))
   word-mask = P .frees (last s) (omega arith)
 
   word-is : (v : ℕ) → bit word v ≡ free (formula s (last s)) v
-  word-is v = ap (λ (w : ℕ). bit w v) word-mask ∙ bit-free (ordered-bounded 32 (kind s) (clean-ordered s (P .clean)) (last s)) v
+  word-is v = ap (λ (w : ℕ). bit w v) word-mask ∙ bit-free (ordered-bounded (variables s) (kind s) (clean-ordered s (P .clean)) (last s)) v
 
-  meet-is : meet (bit bound) (bit word) ≡ meet (boundBefore (kind s) (frames s)) (free (formula s (last s)))
-  meet-is = meet-same (bit bound) _ (bit word) _ (P .bounds) word-is
+  meet-is : meet (s .form) (bit bound) (bit word) ≡ meet (s .form) (boundBefore (kind s) (frames s)) (free (formula s (last s)))
+  meet-is = meet-same (s .form) (bit bound) _ (bit word) _ (P .bounds) word-is
 
   below-none : someHolds (causesBelow s (frames s)) ≡ false
   below-none = clean-below s (frames s) (P .clean)
 
-  some-root : someHolds (frameCauses s) ≡ meet (bit bound) (bit word)
+  some-root : someHolds (frameCauses s) ≡ meet (s .form) (bit bound) (bit word)
   unfolding frameCauses someHolds
   some-root = some-append (causesBelow s (frames s)) (rootCauses s) ∙ rw (below-none, meet-is, or-false)
 
@@ -167,9 +183,9 @@ module _ (s words : List ℕ) (bound : ℕ) (P : Passed s words bound (frames s)
   first-root = first-later (causesBelow s (frames s)) (rootCauses s) below-none
 
   -- no cause holds at any frame
-  pub root-checks : (n p f : ℕ) → RootChecks word bound (last s) n p f → Checks (frameCauses s) s n p f
+  pub root-checks : (n p f : ℕ) → RootChecks (s .form) word bound (last s) n p f → Checks (frameCauses s) s n p f
   unfolding first
-  root-checks n p f r = by-bool (meet (bit bound) (bit word))
+  root-checks n p f r = by-bool (meet (s .form) (bit bound) (bit word))
       (λ t. record {
         number-is = r .number-is ∙ rw (first-root, ← meet-is, t);
         place-is = r .place-is ∙ rw (first-root, ← meet-is, t);
@@ -181,40 +197,47 @@ module _ (s words : List ℕ) (bound : ℕ) (P : Passed s words bound (frames s)
         free-is = r .free-is ∙ rw (some-root, t) word-mask;
       })
 
+  -- the same of a form and a count of frames that the code has worked out
+  pub root-read : (F : Form) (m : ℕ) → F ≡ s .form → m ≡ frames s → (n p f : ℕ) → RootChecks F (getD words (m - 1) 0) bound (m - 1) n p f → Checks (frameCauses s) s n p f
+  root-read F m g e n p f r =
+      root-checks n p f (subst (λ (k : ℕ). RootChecks (s .form) (getD words (k - 1) 0) bound (k - 1) n p f) e
+      (subst (λ (G : Form). RootChecks G (getD words (m - 1) 0) bound (m - 1) n p f) g r))
+
 -- ---- the pass, frame by frame
 
 -- where it ends: a frame is refused, or all are passed
-pub record Scanned (s words : List ℕ) (bound fault place : ℕ) : Type 0 where
+pub record Scanned (s : Sheet) (words : List ℕ) (bound fault place : ℕ) : Type 0 where
   pub refused : (fault ≡ 0 → ⊥) → Checks (frameCauses s) s fault place 0
   pub passed : fault ≡ 0 → Passed s words bound (frames s)
 
 -- a reader stands at frame k: that frame is judged next, or the pass has ended
-pub record Scanning (s words : List ℕ) (k : ℕ) (more : Bool) (bound fault place : ℕ) : Type 0 where
+pub record Scanning (s : Sheet) (words : List ℕ) (k : ℕ) (more : Bool) (bound fault place : ℕ) : Type 0 where
   pub going : more ≡ true → Passed s words bound k × (k < frames s)
   pub ended : more ≡ false → Scanned s words bound fault place
 
-pub scan-starts : (s words : List ℕ) → frames s ≤ 200 → 0 < frames s → length words ≡ 200 → Scanning s words 0 true 0 0 0
+pub scan-starts : (s : Sheet) (words : List ℕ) → frames s ≤ mostFrames s → 0 < frames s → mostFrames s ≤ length words → Scanning s words 0 true 0 0 0
 scan-starts s words m h l = record { going = λ _. (passed-none s words m l, h); ended = λ t. clash true refl t }
 
-pub scan-refuses : (s words : List ℕ) (bound k : ℕ) → Passed s words bound k → k < frames s
+pub scan-refuses : (s : Sheet) (words : List ℕ) (bound k : ℕ) → Passed s words bound k → k < frames s
     → (n : ℕ) → n ≡ first (causesOf s k (bit bound)) .number → (n ≡ 0 → ⊥) → Scanning s words (k + 1) false bound n k
 scan-refuses s words bound k P h n e z = record {
   going = λ t. clash false t refl;
   ended = λ _. record { refused = λ _. fault-checks s words bound k P h n e z; passed = λ w. absurd (z w) };
 }
 
-pub scan-passes : (s words : List ℕ) (bound k : ℕ) → Passed s words bound k → Scanning s words k (ltb k (frames s)) bound 0 0
-scan-passes s words bound k P = record {
-  going = λ t. (P, omega (tests, t));
+-- n is the count of frames, as the code has worked it out
+pub scan-passes : (s : Sheet) (words : List ℕ) (bound k : ℕ) → Passed s words bound k → (n : ℕ) → n ≡ frames s → Scanning s words k (ltb k n) bound 0 0
+scan-passes s words bound k P n e = record {
+  going = λ t. (P, omega (tests, t, e));
   ended = λ t. record {
     refused = λ z. absurd (z refl);
-    passed = λ _. let e : k ≡ frames s = omega (tests, t, P .within) in subst (Passed s words bound) e P;
+    passed = λ _. let h : k ≡ frames s = omega (tests, t, e, P .within) in subst (Passed s words bound) h P;
   };
 }
 
 -- ---- the size first, then the frames
 
-module _ (s : List ℕ) where
+module _ (s : Sheet) where
   pub size-none : (n : ℕ) → n ≡ first (sizeCauses s) .number → n ≡ 0 → someHolds (sizeCauses s) ≡ false
   size-none n e z = first-none (sizeCauses s) (size-numbered s) (sym e ∙ z)
 

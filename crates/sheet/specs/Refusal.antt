@@ -75,3 +75,11 @@ questionTooLarge = 19
 -- ENTER: the desk is above 7
 abbrev pub enterDesk : ℕ
 enterDesk = 24
+
+-- a text: a well shaped sheet line of the other form
+abbrev pub otherForm : ℕ
+otherForm = 29
+
+-- a buffer for a widened sheet has under seven bytes a frame
+abbrev pub wideNoRoom : ℕ
+wideNoRoom = 31

@@ -1,17 +1,19 @@
 -- What it means that no cause holds: of a frame, and of the frames below one. Assumes nothing.
-use Prim.Native.Nat.{ℕ, zero, suc, _+_, _*_, _≤_, _<_}
+use Prim.Native.Nat.{ℕ, zero, suc, _+_, _≤_, _<_}
 use native.Mathlib.Omega.{arith}
 use mathlib.Core.Path.{_≡_, refl, sym, _∙_, ap, subst}
 use mathlib.Core.Bool.{Bool, true, false, _&&_, _||_}
-use mathlib.Core.List.{List}
-use lib.ListN.{getD}
 use lib.Dec.{eqb, leb, ltb}
 use borrow.Author.Tests.{ne-eqb, le-ltb}
 use Rattle.words.specs.Logic.{by-bool, clash, and-both, or-false, or-left, or-right, or-cases, tests}
 use Rattle.formula.specs.Assignment.{within}
 use Rattle.sheet.specs.Cause.{someHolds, Numbered, some-append, numbered-append}
-use Rattle.sheet.specs.Frames.{frames, kindOf, kind, Fit, OrderedBelow, kind-at}
-use Rattle.sheet.specs.Rules.{someBelow, used, spareSet, names, someLate, badRange, badVariables, binds, boundBefore, meet, lengthCauses, sizeCauses, byteCauses, causesAt, causesBelow, rootCauses, frameCauses, sheetCauses}
+use Rattle.form.specs.Form.{variables}
+use Rattle.sheet.specs.Fields.{Sheet, frames, fieldsAt, kindOf, kind}
+use Rattle.sheet.specs.Frames.{Fit, OrderedBelow}
+use Rattle.sheet.specs.Rules.{someBelow, used, spareSet, names, someLate, badRange, badVariables, binds, boundBefore, meet, lengthCauses, sizeCauses, fieldCauses, causesAt, causesBelow, rootCauses, frameCauses, sheetCauses}
+use Rattle.form.specs.declared.Form.{Form}
+use Rattle.sheet.specs.declared.Fields.{Fields}
 use Rattle.sheet.specs.declared.Kind.{Kind}
 use Rattle.sheet.specs.declared.Kind.the-variants.{Never, Input, Not, And, Or, Exists, Forall}
 
@@ -50,42 +52,42 @@ by-bound κ (suc k) v e = or-cases (boundBefore κ k v) (binds (κ k) v) e
 
 -- ---- ranges of variables
 
-pub range-fits : (b c : ℕ) → badRange b c ≡ false → (1 ≤ c) × (c ≤ 32) × (b + c ≤ 32)
+pub range-fits : (F : Form) (b c : ℕ) → badRange F b c ≡ false → (1 ≤ c) × (c ≤ variables F) × (b + c ≤ variables F)
 unfolding badRange
-range-fits b c e =
-    let p = or-false (eqb c 0) (ltb 32 c || ltb 32 (b + c)) e in
-    let q = or-false (ltb 32 c) (ltb 32 (b + c)) (p .1) in
+range-fits F b c e =
+    let p = or-false (eqb c 0) _ e in
+    let q = or-false (ltb (variables F) c) _ (p .1) in
     (omega (tests, p .0), omega (tests, q .0), omega (tests, q .1))
 
-pub fits-range : (b c : ℕ) → 1 ≤ c → c ≤ 32 → b + c ≤ 32 → badRange b c ≡ false
+pub fits-range : (F : Form) (b c : ℕ) → 1 ≤ c → c ≤ variables F → b + c ≤ variables F → badRange F b c ≡ false
 unfolding badRange
-fits-range b c l m h = rw (ne-eqb c 0 (λ e. omega arith), le-ltb 32 c m, le-ltb 32 (b + c) h)
+fits-range F b c l m h = rw (ne-eqb c 0 (λ e. omega arith), le-ltb (variables F) c m, le-ltb (variables F) (b + c) h)
 
-range-low : (b c v : ℕ) → badRange b c ≡ false → within b c v ≡ true → v < 32
+range-low : (F : Form) (b c v : ℕ) → badRange F b c ≡ false → within b c v ≡ true → v < variables F
 unfolding within
-range-low b c v g e = omega (tests, and-both (leb b v) (ltb v (b + c)) e .1, range-fits b c g .2)
+range-low F b c v g e = omega (tests, and-both (leb b v) (ltb v (b + c)) e .1, range-fits F b c g .2)
 
 -- a variable that is bound is one of the sheet's
-pub binds-low : (d : Kind) (v : ℕ) → badVariables d ≡ false → binds d v ≡ true → v < 32
+pub binds-low : (F : Form) (d : Kind) (v : ℕ) → badVariables F d ≡ false → binds d v ≡ true → v < variables F
 unfolding badVariables binds
-binds-low Never v g e = clash false e refl
-binds-low (Input x) v g e = clash false e refl
-binds-low (Not a) v g e = clash false e refl
-binds-low (And a b) v g e = clash false e refl
-binds-low (Or a b) v g e = clash false e refl
-binds-low (Exists a b c) v g e = range-low b c v g e
-binds-low (Forall a b c) v g e = range-low b c v g e
+binds-low F Never v g e = clash false e refl
+binds-low F (Input x) v g e = clash false e refl
+binds-low F (Not a) v g e = clash false e refl
+binds-low F (And a b) v g e = clash false e refl
+binds-low F (Or a b) v g e = clash false e refl
+binds-low F (Exists a b c) v g e = range-low F b c v g e
+binds-low F (Forall a b c) v g e = range-low F b c v g e
 
 -- ---- sets of variables
 
-pub meet-none : (p q : ℕ → Bool) → ((v : ℕ) → v < 32 → p v ≡ true → q v ≡ true → ⊥) → meet p q ≡ false
+pub meet-none : (F : Form) (p q : ℕ → Bool) → ((v : ℕ) → v < variables F → p v ≡ true → q v ≡ true → ⊥) → meet F p q ≡ false
 unfolding meet
-meet-none p q h =
-    below-none 32 (λ v. p v && q v) (λ v l. by-bool (p v && q v) (λ e. let b = and-both (p v) (q v) e in absurd (h v l (b .0) (b .1))) (λ e. e))
+meet-none F p q h =
+    below-none (variables F) (λ v. p v && q v) (λ v l. by-bool (p v && q v) (λ e. let b = and-both (p v) (q v) e in absurd (h v l (b .0) (b .1))) (λ e. e))
 
-pub none-meet : (p q : ℕ → Bool) → meet p q ≡ false → (v : ℕ) → v < 32 → p v ≡ true → q v ≡ false
+pub none-meet : (F : Form) (p q : ℕ → Bool) → meet F p q ≡ false → (v : ℕ) → v < variables F → p v ≡ true → q v ≡ false
 unfolding meet
-none-meet p q e v l h = ap (λ (t : Bool). t && q v) (sym h) ∙ none-below 32 (λ v. p v && q v) e v l
+none-meet F p q e v l h = ap (λ (t : Bool). t && q v) (sym h) ∙ none-below (variables F) (λ v. p v && q v) e v l
 
 -- ---- frames
 
@@ -95,71 +97,71 @@ one-late k a e = omega (tests, or-false (leb k a) false e .0)
 two-late : (k a b : ℕ) → (leb k a || (leb k b || false)) ≡ false → (a < k) × (b < k)
 two-late k a b e = let p = or-false (leb k a) (leb k b || false) e in (omega (tests, p .0), one-late k b (p .1))
 
-pub fit-kind : (k : ℕ) (d : Kind) → someLate k (names d) ≡ false → badVariables d ≡ false → Fit 32 k d
+pub fit-kind : (F : Form) (k : ℕ) (d : Kind) → someLate k (names d) ≡ false → badVariables F d ≡ false → Fit (variables F) k d
 unfolding someLate names badVariables
-fit-kind k Never e g = tt
-fit-kind k (Input x) e g = omega (tests, g)
-fit-kind k (Not a) e g = one-late k a e
-fit-kind k (And a b) e g = two-late k a b e
-fit-kind k (Or a b) e g = two-late k a b e
-fit-kind k (Exists a b c) e g = (one-late k a e, range-fits b c g .2)
-fit-kind k (Forall a b c) e g = (one-late k a e, range-fits b c g .2)
+fit-kind F k Never e g = tt
+fit-kind F k (Input x) e g = omega (tests, g)
+fit-kind F k (Not a) e g = one-late k a e
+fit-kind F k (And a b) e g = two-late k a b e
+fit-kind F k (Or a b) e g = two-late k a b e
+fit-kind F k (Exists a b c) e g = (one-late k a e, range-fits F b c g .2)
+fit-kind F k (Forall a b c) e g = (one-late k a e, range-fits F b c g .2)
 
 -- a frame at which no cause holds
-pub record Clean (code a b c k : ℕ) (p : ℕ → Bool) : Type 0 where
-  pub known : ltb 6 code ≡ false
-  pub spare : spareSet (used (kindOf code a b c)) a b c ≡ false
-  pub earlier : someLate k (names (kindOf code a b c)) ≡ false
-  pub variable : badVariables (kindOf code a b c) ≡ false
-  pub once : meet (binds (kindOf code a b c)) p ≡ false
+pub record Clean (F : Form) (f : Fields) (k : ℕ) (p : ℕ → Bool) : Type 0 where
+  pub known : ltb 6 (f .k) ≡ false
+  pub spare : spareSet (used (kindOf f)) (f .a) (f .b) (f .c) ≡ false
+  pub earlier : someLate k (names (kindOf f)) ≡ false
+  pub variable : badVariables F (kindOf f) ≡ false
+  pub once : meet F (binds (kindOf f)) p ≡ false
 
-module _ (code a b c k : ℕ) (p : ℕ → Bool) where
-  pub none-clean : someHolds (byteCauses code a b c k p) ≡ false → Clean code a b c k p
-  unfolding someHolds byteCauses
+module _ (F : Form) (f : Fields) (k : ℕ) (p : ℕ → Bool) where
+  pub none-clean : someHolds (fieldCauses F f k p) ≡ false → Clean F f k p
+  unfolding someHolds fieldCauses
   none-clean e =
-      let d = kindOf code a b c in
-      let e6 = or-false (ltb 6 code) _ e in
-      let e7 = or-false (spareSet (used d) a b c) _ (e6 .1) in
+      let d = kindOf f in
+      let e6 = or-false (ltb 6 (f .k)) _ e in
+      let e7 = or-false (spareSet (used d) (f .a) (f .b) (f .c)) _ (e6 .1) in
       let e8 = or-false (someLate k (names d)) _ (e7 .1) in
-      let e9 = or-false (badVariables d) _ (e8 .1) in
-      let e10 = or-false (meet (binds d) p) _ (e9 .1) in
+      let e9 = or-false (badVariables F d) _ (e8 .1) in
+      let e10 = or-false (meet F (binds d) p) _ (e9 .1) in
       record { known = e6 .0; spare = e7 .0; earlier = e8 .0; variable = e9 .0; once = e10 .0 }
 
-  pub clean-none : Clean code a b c k p → someHolds (byteCauses code a b c k p) ≡ false
-  unfolding someHolds byteCauses
+  pub clean-none : Clean F f k p → someHolds (fieldCauses F f k p) ≡ false
+  unfolding someHolds fieldCauses
   clean-none g = rw (g .known, g .spare, g .earlier, g .variable, g .once)
 
-  pub byte-numbered : Numbered (byteCauses code a b c k p)
-  unfolding byteCauses
-  byte-numbered = (omega arith, (omega arith, (omega arith, (omega arith, (omega arith, tt)))))
+  pub field-numbered : Numbered (fieldCauses F f k p)
+  unfolding fieldCauses
+  field-numbered = (omega arith, (omega arith, (omega arith, (omega arith, (omega arith, tt)))))
 
-abbrev pub CleanAt : List ℕ → ℕ → Type 0
-CleanAt s k = Clean (getD s (k * 4) 0) (getD s (k * 4 + 1) 0) (getD s (k * 4 + 2) 0) (getD s (k * 4 + 3) 0) k (boundBefore (kind s) k)
+abbrev pub CleanAt : Sheet → ℕ → Type 0
+CleanAt s k = Clean (s .form) (fieldsAt s k) k (boundBefore (kind s) k)
 
-module _ (s : List ℕ) where
+module _ (s : Sheet) where
   pub below-clean : (k : ℕ) → someHolds (causesBelow s k) ≡ false → (j : ℕ) → j < k → CleanAt s j
   unfolding causesBelow
   below-clean zero e j h = absurd (omega arith)
   below-clean (suc k) e j h =
       let p = or-false (someHolds (causesBelow s k)) (someHolds (causesAt s k)) (sym (some-append (causesBelow s k) (causesAt s k)) ∙ e) in
       by-bool (eqb j k)
-      (λ q. let w : j ≡ k = omega tests in subst (CleanAt s) (sym w) (none-clean _ _ _ _ k _ (p .1)))
+      (λ q. let w : j ≡ k = omega tests in subst (CleanAt s) (sym w) (none-clean (s .form) _ k _ (p .1)))
       (λ q. below-clean k (p .0) j (omega tests))
 
   pub clean-below : (k : ℕ) → ((j : ℕ) → j < k → CleanAt s j) → someHolds (causesBelow s k) ≡ false
   unfolding causesBelow someHolds
   clean-below zero h = refl
   clean-below (suc k) h =
-      some-append (causesBelow s k) (causesAt s k) ∙ rw (clean-below k (λ j l. h j (omega arith)), clean-none _ _ _ _ k _ (h k (omega arith)))
+      some-append (causesBelow s k) (causesAt s k) ∙ rw (clean-below k (λ j l. h j (omega arith)), clean-none (s .form) _ k _ (h k (omega arith)))
 
   -- the frames below a count name only earlier frames and only the sheet's variables
-  pub below-ordered : (k : ℕ) → k ≤ frames s → ((j : ℕ) → j < k → CleanAt s j) → OrderedBelow k 32 (kind s)
-  below-ordered k m h j l = subst (Fit 32 j) (sym (kind-at s j (omega arith))) (fit-kind j _ (h j l .earlier) (h j l .variable))
+  pub below-ordered : (k : ℕ) → k ≤ frames s → ((j : ℕ) → j < k → CleanAt s j) → OrderedBelow k (variables (s .form)) (kind s)
+  below-ordered k m h j l = fit-kind (s .form) j _ (h j l .earlier) (h j l .variable)
 
   below-numbered : (k : ℕ) → Numbered (causesBelow s k)
   unfolding causesBelow
   below-numbered zero = tt
-  below-numbered (suc k) = numbered-append (causesBelow s k) (causesAt s k) (below-numbered k) (byte-numbered _ _ _ _ k _)
+  below-numbered (suc k) = numbered-append (causesBelow s k) (causesAt s k) (below-numbered k) (field-numbered (s .form) _ k _)
 
   pub frame-numbered : Numbered (frameCauses s)
   unfolding frameCauses

@@ -1,26 +1,23 @@
--- Document 01's causes to refuse a sheet, each as a test of its bytes, and their order. Assumes nothing.
-use Prim.Native.Nat.{ℕ, zero, suc, _+_, _-_, _*_, _/_, _%_}
+-- Document 01's causes to refuse a sheet, each as a test of its bytes or of a frame's fields, and their order. Assumes nothing.
+use Prim.Native.Nat.{ℕ, zero, suc, _+_, _-_}
 use mathlib.Core.Bool.{Bool, false, not, _&&_, _||_}
 use mathlib.Core.List.{List, [], _∷_, _++_}
-use lib.ListN.{length, getD}
+use lib.ListN.{length}
 use lib.Dec.{eqb, leb, ltb}
 use Rattle.formula.specs.Assignment.{within}
 use Rattle.formula.specs.Formula.{free}
 use Rattle.sheet.specs.Cause.{Cause, Refusal, first}
 use Rattle.sheet.specs.Refusal as Number
-use Rattle.sheet.specs.Frames.{frames, kindOf, kind, formula}
+use Rattle.form.specs.Form as Sizes
+use Rattle.sheet.specs.Fields.{Sheet, frames, fieldsAt, kindOf, kind}
+use Rattle.sheet.specs.Frames.{formula}
+use Rattle.form.specs.declared.Form.{Form}
+use Rattle.sheet.specs.declared.Fields.{Fields}
 use Rattle.sheet.specs.declared.Kind.{Kind}
 use Rattle.sheet.specs.declared.Kind.the-variants.{Never, Input, Not, And, Or, Exists, Forall}
 
--- variables are 0 to 31
-abbrev pub variables : ℕ
-variables = 32
-
-abbrev pub mostFrames : ℕ
-mostFrames = 200
-
 -- the sheet's formula is that of its last frame
-abbrev pub last : List ℕ → ℕ
+abbrev pub last : Sheet → ℕ
 last s = frames s - 1
 
 -- p holds of some number below n
@@ -28,9 +25,9 @@ unfoldable pub someBelow : ℕ → (ℕ → Bool) → Bool
 someBelow zero p = false
 someBelow (suc n) p = someBelow n p || p n
 
--- ---- what a kind asks of its bytes
+-- ---- what a kind asks of its fields
 
--- how many of the bytes A B C a kind uses; those behind are spare
+-- how many of the fields A B C a kind uses; those behind are spare
 unfoldable pub used : Kind → ℕ
 used Never = 0
 used (Input x) = 1
@@ -40,7 +37,7 @@ used (Or a b) = 2
 used (Exists a b c) = 3
 used (Forall a b c) = 3
 
--- the byte x at a place of A B C is spare, behind the first n, and not 0
+-- the field x at a place of A B C is spare, behind the first n, and not 0
 abbrev pub spareAt : ℕ → ℕ → ℕ → Bool
 spareAt n place x = leb n place && not (eqb x 0)
 
@@ -62,18 +59,21 @@ unfoldable pub someLate : ℕ → List ℕ → Bool
 someLate k [] = false
 someLate k (a ∷ l) = leb k a || someLate k l
 
--- not 1 to 32 variables from b on, all below 32; b + c is a sum of numbers, not of bytes
-unfoldable pub badRange : ℕ → ℕ → Bool
-badRange b c = eqb c 0 || (ltb variables c || ltb variables (b + c))
+-- not 1 to 32 (wide: 64) variables from b on, all below 32 (64); b + c is a sum of numbers, not of bytes
+unfoldable pub badRange : Form → ℕ → ℕ → Bool
+badRange F b c = eqb c 0 || (ltb (Sizes.variables F) c || ltb (Sizes.variables F) (b + c))
 
-unfoldable pub badVariables : Kind → Bool
-badVariables Never = false
-badVariables (Input x) = leb variables x
-badVariables (Not a) = false
-badVariables (And a b) = false
-badVariables (Or a b) = false
-badVariables (Exists a b c) = badRange b c
-badVariables (Forall a b c) = badRange b c
+abbrev pub badInput : Form → ℕ → Bool
+badInput F x = leb (Sizes.variables F) x
+
+unfoldable pub badVariables : Form → Kind → Bool
+badVariables F Never = false
+badVariables F (Input x) = badInput F x
+badVariables F (Not a) = false
+badVariables F (And a b) = false
+badVariables F (Or a b) = false
+badVariables F (Exists a b c) = badRange F b c
+badVariables F (Forall a b c) = badRange F b c
 
 -- a frame of this kind binds the variable v
 unfoldable pub binds : Kind → ℕ → Bool
@@ -91,8 +91,8 @@ boundBefore κ zero v = false
 boundBefore κ (suc k) v = boundBefore κ k v || binds (κ k) v
 
 -- p and q have a variable in common
-unfoldable pub meet : (ℕ → Bool) → (ℕ → Bool) → Bool
-meet p q = someBelow variables (λ v. p v && q v)
+unfoldable pub meet : Form → (ℕ → Bool) → (ℕ → Bool) → Bool
+meet F p q = someBelow (Sizes.variables F) (λ v. p v && q v)
 
 -- ---- the causes in document 01's order
 
@@ -100,42 +100,43 @@ abbrev pub cause : Bool → ℕ → ℕ → Cause
 cause t n k = record { holds = t; number = n; place = k }
 
 -- of a sheet of n bytes
-unfoldable pub lengthCauses : ℕ → List Cause
-lengthCauses n =
-    cause (eqb n 0 || not (eqb (n % 4) 0)) Number.notWhole 0
-    ∷ (cause (ltb mostFrames (n / 4)) Number.sheetTooLong 0 ∷ [])
+unfoldable pub lengthCauses : Form → ℕ → List Cause
+lengthCauses F n =
+    cause (eqb n 0 || not (eqb (Sizes.rest F n) 0)) Number.notWhole 0
+    ∷ (cause (ltb (Sizes.mostFrames F) (Sizes.frames F n)) Number.sheetTooLong 0 ∷ [])
 
-abbrev pub sizeCauses : List ℕ → List Cause
-sizeCauses s = lengthCauses (length s)
+abbrev pub sizeCauses : Sheet → List Cause
+sizeCauses s = lengthCauses (s .form) (length (s .bytes))
 
--- of frame k with the bytes K A B C, where earlier frames bind the variables of p
-unfoldable pub byteCauses : ℕ → ℕ → ℕ → ℕ → ℕ → (ℕ → Bool) → List Cause
-byteCauses code a b c k p =
-    cause (ltb 6 code) Number.kindUnknown k
-    ∷ (cause (spareSet (used (kindOf code a b c)) a b c) Number.spareUsed k
-    ∷ (cause (someLate k (names (kindOf code a b c))) Number.notEarlier k
-    ∷ (cause (badVariables (kindOf code a b c)) Number.rangeBroken k
-    ∷ (cause (meet (binds (kindOf code a b c)) p) Number.boundTwice k ∷ []))))
+-- of frame k with the fields f, where earlier frames bind the variables of p
+unfoldable pub fieldCauses : Form → Fields → ℕ → (ℕ → Bool) → List Cause
+fieldCauses F f k p =
+    cause (ltb 6 (f .k)) Number.kindUnknown k
+    ∷ (cause (spareSet (used (kindOf f)) (f .a) (f .b) (f .c)) Number.spareUsed k
+    ∷ (cause (someLate k (names (kindOf f))) Number.notEarlier k
+    ∷ (cause (badVariables F (kindOf f)) Number.rangeBroken k
+    ∷ (cause (meet F (binds (kindOf f)) p) Number.boundTwice k ∷ []))))
 
-abbrev pub causesOf : List ℕ → ℕ → (ℕ → Bool) → List Cause
-causesOf s k p = byteCauses (getD s (k * 4) 0) (getD s (k * 4 + 1) 0) (getD s (k * 4 + 2) 0) (getD s (k * 4 + 3) 0) k p
+abbrev pub causesOf : Sheet → ℕ → (ℕ → Bool) → List Cause
+causesOf s k p = fieldCauses (s .form) (fieldsAt s k) k p
 
-abbrev pub causesAt : List ℕ → ℕ → List Cause
+abbrev pub causesAt : Sheet → ℕ → List Cause
 causesAt s k = causesOf s k (boundBefore (kind s) k)
 
 -- frame by frame, below k
-unfoldable pub causesBelow : List ℕ → ℕ → List Cause
+unfoldable pub causesBelow : Sheet → ℕ → List Cause
 causesBelow s zero = []
 causesBelow s (suc k) = causesBelow s k ++ causesAt s k
 
-abbrev pub rootCauses : List ℕ → List Cause
-rootCauses s = cause (meet (boundBefore (kind s) (frames s)) (free (formula s (last s)))) Number.boundFree (last s) ∷ []
+abbrev pub rootCauses : Sheet → List Cause
+rootCauses s =
+    cause (meet (s .form) (boundBefore (kind s) (frames s)) (free (formula s (last s)))) Number.boundFree (last s) ∷ []
 
-unfoldable pub frameCauses : List ℕ → List Cause
+unfoldable pub frameCauses : Sheet → List Cause
 frameCauses s = causesBelow s (frames s) ++ rootCauses s
 
-abbrev pub sheetCauses : List ℕ → List Cause
+abbrev pub sheetCauses : Sheet → List Cause
 sheetCauses s = sizeCauses s ++ frameCauses s
 
-abbrev pub sheetRefusal : List ℕ → Refusal
+abbrev pub sheetRefusal : Sheet → Refusal
 sheetRefusal s = first (sheetCauses s)

@@ -1,26 +1,39 @@
-// A sheet's frames: what their bytes say, and whether the sheet keeps the rules.
+// A sheet's frames: what their bytes say, in either form, and whether the sheet keeps the rules.
+mod layout;
 pub mod reader;
 pub mod refusal;
 mod rules;
 mod scan;
 
+ghost use mathlib.Core.Path.{_≡_};
+ghost use Rattle.sheet.specs.Fields.{sheetOf, kindOf, kind};
+use form::Form;
+use layout::fields_at;
+pub use rules::range_word;
 pub use rules::size_fault;
 pub use rules::spare_set;
 pub use scan::Checked;
 pub use scan::check;
 pub use scan::check_frames;
-ghost use mathlib.Core.Path.{_≡_};
-ghost use Rattle.sheet.specs.Frames.{kindOf, kind};
+pub use scan::check_wide;
+
+// K and A B C of a frame.
+pub struct Fields {
+    pub k: u8,
+    pub a: u16,
+    pub b: u16,
+    pub c: u16,
+}
 
 // What a frame says. A named frame is a number below the frame's own; a range of variables is its first and how many.
 pub enum Kind {
     Never,
-    Input(u8),
+    Input(u16),
     Not(u16),
     And(u16, u16),
     Or(u16, u16),
-    Exists(u16, u8, u8),
-    Forall(u16, u8, u8),
+    Exists(u16, u16, u16),
+    Forall(u16, u16, u16),
 }
 
 pub struct Frame {
@@ -28,40 +41,32 @@ pub struct Frame {
     pub kind: Kind,
 }
 
-pub fn wide(x: u8) -> u16
-    ensures { λ r. ⌜ r ≡ x ⌝ }
+// The kind that a frame's fields say; a code above 6 gives `Never`.
+fn kind_of(f: Fields) -> Kind
+    ensures { λ r. ⌜ r ≡ kindOf f ⌝ }
 {
-    x as u16
-}
-
-// The kind that a frame's four bytes say; a code above 6 gives `Never`.
-fn kind_of(code: u8, a: u8, b: u8, c: u8) -> Kind
-    ensures { λ r. ⌜ r ≡ kindOf code a b c ⌝ }
-{
-    let x = wide(a);
-    let y = wide(b);
+    let x = f.a;
+    let y = f.b;
+    let z = f.c;
+    let code = f.k;
     match code {
-        1 => Kind::Input(a),
+        1 => Kind::Input(x),
         2 => Kind::Not(x),
         3 => Kind::And(x, y),
         4 => Kind::Or(x, y),
-        5 => Kind::Exists(x, b, c),
-        6 => Kind::Forall(x, b, c),
+        5 => Kind::Exists(x, y, z),
+        6 => Kind::Forall(x, y, z),
         _ => Kind::Never,
     }
 }
 
 // The frame of that number; past the last whole frame it is `Never`.
-pub fn decode(bytes: &[u8], number: usize) -> Frame
-    ensures { λ r. ⌜ (r .number ≡ number) × (r .kind ≡ kind (now (bytes .entry)) number) ⌝ }
+pub fn decode(bytes: &[u8], form: Form, number: usize) -> Frame
+    ensures { λ r. ⌜ (r .number ≡ number) × (r .kind ≡ kind (sheetOf form (now (bytes .entry))) number) ⌝ }
 {
-    if number < bytes.len() / 4 {
-        let at = number * 4;
-        let k = kind_of(bytes[at], bytes[at + 1], bytes[at + 2], bytes[at + 3]);
-        return Frame { number, kind: k };
-    }
+    let f = fields_at(bytes, form, number);
     Frame {
         number,
-        kind: Kind::Never,
+        kind: kind_of(f),
     }
 }

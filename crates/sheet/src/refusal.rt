@@ -38,3 +38,7 @@ pub const QUESTION_BROKEN: u8 = 18;
 pub const QUESTION_TOO_LARGE: u8 = 19;
 
 pub const ENTER_DESK: u8 = 24;
+
+pub const OTHER_FORM: u8 = 29;
+
+pub const WIDE_NO_ROOM: u8 = 31;

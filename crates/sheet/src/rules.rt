@@ -1,36 +1,43 @@
 // Document 01's causes to refuse a sheet, each as a test of its length or of one frame.
 ghost use mathlib.Core.Path.{_≡_};
 ghost use mathlib.Core.Bool.{false};
-ghost use Prim.Native.Nat.{_<_};
+ghost use Prim.Native.Nat.{_+_, _^_, _<_, _≤_};
 ghost use Rattle.words.specs.Word.{bit};
+ghost use Rattle.words.specs.Mask.{rangeMask};
+ghost use Rattle.form.specs.Form as Sizes;
 ghost use Rattle.sheet.specs.Cause.{first};
-ghost use Rattle.sheet.specs.Frames.{frames, kindOf, kind};
+ghost use Rattle.sheet.specs.Fields.{sheetOf};
 ghost use Rattle.sheet.specs.Rules as Rules;
-ghost use Rattle.sheet.specs.Rules.{lengthCauses, byteCauses, causesOf, someLate, names};
+ghost use Rattle.sheet.specs.Rules.{lengthCauses, fieldCauses, causesOf, someLate, names};
 ghost use Rattle.sheet.specs.Check.{boundMask, variablesFault};
-use crate::Frame;
+use crate::Fields;
 use crate::Kind;
+use crate::kind_of;
+use crate::layout::fields_at;
 use crate::refusal;
-use crate::wide;
-use words::w32;
+use form::Form;
+use words::w64;
 
 // The cause that the length of a sheet gives, or 0.
-pub fn size_fault(len: usize) -> u8
-    ensures { λ r. ⌜ r ≡ first (lengthCauses len) .number ⌝ }
+pub fn size_fault(form: Form, len: usize) -> u8
+    ensures { λ r. ⌜ r ≡ first (lengthCauses form len) .number ⌝ }
 {
+    let behind = form::rest(form, len);
+    let count = form::frames(form, len);
+    let most = form::most_frames(form);
     if len == 0 {
         return refusal::NOT_WHOLE;
     }
-    if len % 4 != 0 {
+    if behind != 0 {
         return refusal::NOT_WHOLE;
     }
-    if len / 4 > 200 {
+    if count > most {
         return refusal::SHEET_TOO_LONG;
     }
     0
 }
 
-// How many of the bytes A B C a kind uses.
+// How many of the fields A B C a kind uses.
 fn used(kind: Kind) -> u8
     ensures { λ r. ⌜ r ≡ Rules.used kind ⌝ }
 {
@@ -45,15 +52,15 @@ fn used(kind: Kind) -> u8
     }
 }
 
-// Whether the byte at a place of A B C is behind the first n, and not 0.
-fn spare_at(n: u8, place: u8, byte: u8) -> bool
-    ensures { λ r. ⌜ r ≡ Rules.spareAt n place byte ⌝ }
+// Whether the field at a place of A B C is behind the first n, and not 0.
+fn spare_at(n: u8, place: u8, field: u16) -> bool
+    ensures { λ r. ⌜ r ≡ Rules.spareAt n place field ⌝ }
 {
-    if n <= place { byte != 0 } else { false }
+    if n <= place { field != 0 } else { false }
 }
 
-// Whether one of the bytes behind the first n is not 0.
-pub fn spare_set(n: u8, a: u8, b: u8, c: u8) -> bool
+// Whether one of the fields behind the first n is not 0.
+pub fn spare_set(n: u8, a: u16, b: u16, c: u16) -> bool
     ensures { λ r. ⌜ r ≡ Rules.spareSet n a b c ⌝ }
 {
     if spare_at(n, 0, a) {
@@ -80,35 +87,73 @@ fn some_late(kind: Kind, number: u16) -> bool
     }
 }
 
-fn bad_range(b: u8, c: u8) -> bool
-    ensures { λ r. ⌜ r ≡ Rules.badRange b c ⌝ }
+fn long(x: u16) -> u32
+    ensures { λ r. ⌜ r ≡ x ⌝ }
 {
+    x as u32
+}
+
+// The bound of a form's variables, as wide as a sum of two fields.
+fn bound_of(form: Form) -> u32
+    ensures { λ r. ⌜ r ≡ Sizes.variables form ⌝ }
+{
+    form::variables(form) as u32
+}
+
+fn bad_range(form: Form, b: u16, c: u16) -> bool
+    ensures { λ r. ⌜ r ≡ Rules.badRange form b c ⌝ }
+{
+    let bound = bound_of(form);
+    let count = long(c);
+    let end = long(b) + count;
     if c == 0 {
         return true;
     }
-    if c > 32 {
+    if count > bound {
         return true;
     }
-    wide(b) + wide(c) > 32
+    end > bound
 }
 
-fn bad_variables(kind: Kind) -> bool
-    ensures { λ r. ⌜ r ≡ Rules.badVariables kind ⌝ }
+fn bad_input(form: Form, x: u16) -> bool
+    ensures { λ r. ⌜ r ≡ Rules.badInput form x ⌝ }
+{
+    long(x) >= bound_of(form)
+}
+
+fn bad_variables(form: Form, kind: Kind) -> bool
+    ensures { λ r. ⌜ r ≡ Rules.badVariables form kind ⌝ }
 {
     match kind {
         Kind::Never => false,
-        Kind::Input(x) => x >= 32,
+        Kind::Input(x) => bad_input(form, x),
         Kind::Not(_) => false,
         Kind::And(_, _) => false,
         Kind::Or(_, _) => false,
-        Kind::Exists(_, b, c) => bad_range(b, c),
-        Kind::Forall(_, b, c) => bad_range(b, c),
+        Kind::Exists(_, b, c) => bad_range(form, b, c),
+        Kind::Forall(_, b, c) => bad_range(form, b, c),
     }
 }
 
+// The c places from b on.
+pub fn range_word(b: u16, c: u16) -> u64
+    requires { ⌜ b + c ≤ 64 ⌝ }
+    ensures { λ r. ⌜ r ≡ rangeMask b c ⌝ }
+{
+    w64::range_mask(b as u8, c as u8)
+}
+
+// The place x alone.
+pub fn input_word(x: u16) -> u64
+    requires { ⌜ x < 64 ⌝ }
+    ensures { λ r. ⌜ r ≡ 2 ^ x ⌝ }
+{
+    w64::one(x as u8)
+}
+
 // The variables that a frame of this kind binds.
-pub fn bound_word(kind: Kind) -> u32
-    requires { ⌜ Rules.badVariables kind ≡ false ⌝ }
+pub fn bound_word(form: Form, kind: Kind) -> u64
+    requires { ⌜ Rules.badVariables form kind ≡ false ⌝ }
     ensures { λ r. ⌜ r ≡ boundMask kind ⌝ }
 {
     match kind {
@@ -117,33 +162,33 @@ pub fn bound_word(kind: Kind) -> u32
         Kind::Not(_) => 0,
         Kind::And(_, _) => 0,
         Kind::Or(_, _) => 0,
-        Kind::Exists(_, b, c) => w32::range_mask(b, c),
-        Kind::Forall(_, b, c) => w32::range_mask(b, c),
+        Kind::Exists(_, b, c) => range_word(b, c),
+        Kind::Forall(_, b, c) => range_word(b, c),
     }
 }
 
 // The first of the causes 9 and 10 that holds at a frame, or 0; bound are the variables that earlier frames bind.
-fn variables_fault(kind: Kind, bound: u32) -> u8
-    ensures { λ r. ⌜ r ≡ variablesFault kind (bit bound) ⌝ }
+fn variables_fault(form: Form, kind: Kind, bound: u64) -> u8
+    ensures { λ r. ⌜ r ≡ variablesFault form kind (bit bound) ⌝ }
 {
-    if bad_variables(kind) {
+    if bad_variables(form, kind) {
         return refusal::RANGE_BROKEN;
     }
-    if bound_word(kind) & bound != 0 {
+    if bound_word(form, kind) & bound != 0 {
         return refusal::BOUND_TWICE;
     }
     0
 }
 
-// The first of the causes 6 to 10 at a frame of that number and kind, or 0; 6 and 7 go by its bytes, which the kind loses.
-fn frame_fault(code: u8, a: u8, b: u8, c: u8, kind: Kind, number: u16, bound: u32) -> u8
-    requires { ⌜ kind ≡ kindOf code a b c ⌝ }
-    ensures { λ r. ⌜ r ≡ first (byteCauses code a b c number (bit bound)) .number ⌝ }
+// The first of the causes 6 to 10 by the frame's fields, or 0.
+fn frame_fault(form: Form, f: Fields, number: u16, bound: u64) -> u8
+    ensures { λ r. ⌜ r ≡ first (fieldCauses form f number (bit bound)) .number ⌝ }
 {
-    if code > 6 {
+    if f.k > 6 {
         return refusal::KIND_UNKNOWN;
     }
-    let spare = spare_set(used(kind), a, b, c);
+    let kind = kind_of(f);
+    let spare = spare_set(used(kind), f.a, f.b, f.c);
     let late = some_late(kind, number);
     if spare {
         return refusal::SPARE_USED;
@@ -151,24 +196,15 @@ fn frame_fault(code: u8, a: u8, b: u8, c: u8, kind: Kind, number: u16, bound: u3
     if late {
         return refusal::NOT_EARLIER;
     }
-    variables_fault(kind, bound)
+    variables_fault(form, kind, bound)
 }
 
-// The same for a frame of the sheet.
-pub fn fault_of(sheet: &[u8], frame: Frame, bound: u32) -> u8
-    requires { ⌜ (frame .number < frames (now sheet)) × (frame .number < 200) × (frame .kind ≡ kind (now sheet) (frame .number)) ⌝ }
-    ensures { λ r. ⌜ r ≡ first (causesOf (now (sheet .entry)) (frame .number) (bit bound)) .number ⌝ }
+// The same for the frame of that number.
+pub fn fault_at(sheet: &[u8], form: Form, number: usize, bound: u64) -> u8
+    requires { ⌜ number < 3000 ⌝ }
+    ensures { λ r. ⌜ r ≡ first (causesOf (sheetOf form (now (sheet .entry))) number (bit bound)) .number ⌝ }
 {
-    let at = frame.number * 4;
-    let place = frame.number as u16;
-    let kind = frame.kind;
-    frame_fault(
-        sheet[at],
-        sheet[at + 1],
-        sheet[at + 2],
-        sheet[at + 3],
-        kind,
-        place,
-        bound,
-    )
+    let f = fields_at(sheet, form, number);
+    let place = number as u16;
+    frame_fault(form, f, place, bound)
 }

@@ -1,5 +1,6 @@
 -- What ASK does beside the search: the smallest word from what was found, and the record that document 01 promises. Assumes nothing.
 use Prim.Native.Nat.{ℕ, _+_, _-_, _%_, _<_}
+use native.Mathlib.Nat.{mod-eq-of-lt}
 use native.Mathlib.Omega.{arith}
 use mathlib.Core.Path.{_≡_, refl, sym, _∙_, ap}
 use mathlib.Core.Bool.{Bool, true, false, not, _&&_}
@@ -15,31 +16,35 @@ use Rattle.formula.specs.Reason.{Explains, explains-truth}
 use Rattle.formula.specs.ReasonWord.{word-values}
 use Rattle.formula.specs.Ask.{Bounded, freeMask, freeMask-lt, ask, yes, ask-chosen, ask-explained}
 use Rattle.formula.specs.Ask as Question
-use Rattle.sheet.specs.Frames.{frames, formula}
+use Rattle.form.specs.Form.{wordEnd, end-power}
+use Rattle.form.specs.declared.Form.{Form}
+use Rattle.sheet.specs.Fields.{Sheet, frames, variables}
+use Rattle.sheet.specs.Frames.{formula}
 use Rattle.records.specs.Table.{Valid, Grown, Kept, matches, grown-refl, grown-trans}
 use Rattle.records.specs.Put.{Put, valid-put, kept-put}
 use Rattle.records.specs.Search.{FirstBelow, first-kept}
 use Rattle.records.specs.Both as Both
-use Rattle.net.specs.Layout.{framesOf, freeOf, formulaAt, val}
+use Rattle.net.specs.Layout.{netForm, framesOf, freeOf, formulaAt, val}
+use Rattle.net.specs.Sheet.{net-form}
 use Rattle.search.specs.Search.{Found, Lost}
 use Rattle.solver.specs.Contract.{last, root, Ready, TablesGrown, Promised, Same}
 use Rattle.solver.specs.Across.{found-stands, lost-stands, root-stands, root-bounded, bit-opens, tables-net, grown-sheet}
 use Rattle.solver.specs.Question.{Asking}
 
 -- a record that matches is kept, and the table stays true where the reason holds
-pub record Ensured (t : List ℕ) (count : ℕ) (t' : List ℕ) (count' frame assigned setting reason : ℕ) : Type 0 where
-  pub grown : Grown t count t' count'
-  pub kept : Sub reason assigned → Kept t' count' frame assigned setting
-  pub valid : (φ : ℕ → Formula) (n : ℕ) (v : Bool) → Valid φ n v t count → frame < n → Explains (φ frame) v (bit reason) (bit setting) → Valid φ n v t' count'
+pub record Ensured (F : Form) (t : List ℕ) (count : ℕ) (t' : List ℕ) (count' frame assigned setting reason : ℕ) : Type 0 where
+  pub grown : Grown F t count t' count'
+  pub kept : Sub reason assigned → Kept F t' count' frame assigned setting
+  pub valid : (φ : ℕ → Formula) (n : ℕ) (v : Bool) → Valid F φ n v t count → frame < n → Explains (φ frame) v (bit reason) (bit setting) → Valid F φ n v t' count'
 
-pub ensured-found : {t : List ℕ} {count frame assigned setting j : ℕ} (reason : ℕ) → FirstBelow (matches t frame assigned setting) count j → Ensured t count t count frame assigned setting reason
-ensured-found {t} {count} {frame} {assigned} {setting} reason f = record {
-  grown = grown-refl t count;
-  kept = λ i. first-kept t count frame assigned setting f;
+pub ensured-found : {F : Form} {t : List ℕ} {count frame assigned setting j : ℕ} (reason : ℕ) → FirstBelow (matches F t frame assigned setting) count j → Ensured F t count t count frame assigned setting reason
+ensured-found {F} {t} {count} {frame} {assigned} {setting} reason f = record {
+  grown = grown-refl F t count;
+  kept = λ i. first-kept F t count frame assigned setting f;
   valid = λ φ n v G l E. G;
 }
 
-pub ensured-put : {t : List ℕ} {count : ℕ} {t' : List ℕ} {count' frame : ℕ} (assigned setting : ℕ) {reason : ℕ} → Put t count t' count' frame reason (bitAnd setting reason) → Ensured t count t' count' frame assigned setting reason
+pub ensured-put : {F : Form} {t : List ℕ} {count : ℕ} {t' : List ℕ} {count' frame : ℕ} (assigned setting : ℕ) {reason : ℕ} → Put F t count t' count' frame reason (bitAnd setting reason) → Ensured F t count t' count' frame assigned setting reason
 ensured-put assigned setting {reason} p = record {
   grown = p .grown;
   kept = λ i. kept-put assigned setting p i (bits-masked reason setting setting (λ k e. refl));
@@ -48,11 +53,11 @@ ensured-put assigned setting {reason} p = record {
 
 -- ---- a sheet that is ready
 
-module _ {s net : List ℕ} {mask values : ℕ} {u : List ℕ} {cu : ℕ} {o : List ℕ} {co : ℕ} (R : Ready s net mask values u cu o co) where
+module _ {s : Sheet} {net : List ℕ} {mask values : ℕ} {u : List ℕ} {cu : ℕ} {o : List ℕ} {co : ℕ} (R : Ready s net mask values u cu o co) where
   pub ready-some : 0 < framesOf net
   ready-some = omega (arith, R .checked .some, R .net-of .count)
 
-  pub ready-bounded : Bounded 32 (root s)
+  pub ready-bounded : Bounded (variables s) (root s)
   ready-bounded = root-bounded (R .net-of) ready-some
 
   -- a question for the truth t over a cube m, w of entered variables
@@ -82,7 +87,7 @@ module _ {s net : List ℕ} {mask values : ℕ} {u : List ℕ} {cu : ℕ} {o : L
   ready-lost h = lost-stands (root-stands (R .net-of) ready-some) h
 
   pub ready-grown : {u' : List ℕ} {cu' : ℕ} {o' : List ℕ} {co' : ℕ}
-      → Both.TablesGrown (formulaAt net) (framesOf net) u cu o co u' cu' o' co' → TablesGrown s u cu o co u' cu' o' co'
+      → Both.TablesGrown (netForm net) (formulaAt net) (framesOf net) u cu o co u' cu' o' co' → TablesGrown s u cu o co u' cu' o' co'
   ready-grown G = grown-sheet (R .net-of) G
 
   -- ---- reasons and words
@@ -108,31 +113,36 @@ module _ {s net : List ℕ} {mask values : ℕ} {u : List ℕ} {cu : ℕ} {o : L
       rw (sym d, sym (or-sum (apart-sub (apart-sym (apart-sub (without-apart (freeOf net) mask) (R .valued))) i)))
       (or-sub (sub-trans (R .valued) (R .entered)) (sub-trans i (without-sub (freeOf net) mask)))
 
-  -- a word of free variables is one of 32 places, so that records have all of it
-  pub low-same : {x y : ℕ} → Sub x (freeOf net) → y ≡ x % 4294967296 → y ≡ x
-  low-same {x} {y} i e = omega (arith, e, sub-lt 32 i (rw (R .net-of .opens) (freeMask-lt 32 (root s))))
+  -- a word of free variables has no more places than the form, so that records have all of it
+  pub low-same : {x y : ℕ} → Sub x (freeOf net) → y ≡ x % wordEnd (s .form) → y ≡ x
+  low-same {x} i e =
+      let l : x < wordEnd (s .form) = rw (end-power (s .form)) (sub-lt (variables s) i (rw (R .net-of .opens) (freeMask-lt (variables s) (root s)))) in
+      e ∙ mod-eq-of-lt l
 
   -- ---- the verdict
 
-  pub ask-found : {loose w word r : ℕ} → loose ≡ without (freeOf net) mask → w ≡ values → Found (root s) true loose w word r → ask 32 (root s) mask values ≡ yes word
+  pub ask-found : {loose w word r : ℕ} → loose ≡ without (freeOf net) mask → w ≡ values → Found (root s) true loose w word r → ask (variables s) (root s) mask values ≡ yes word
   ask-found {word = word} e ew h =
-      let f : without (freeOf net) mask ≡ without (freeMask 32 (root s)) mask = ap (λ (x : ℕ). without x mask) (R .net-of .opens) in
+      let f : without (freeOf net) mask ≡ without (freeMask (variables s) (root s)) mask = ap (λ (x : ℕ). without x mask) (R .net-of .opens) in
       let d : word ≡ values + h .chosen = h .is ∙ ap (λ (x : ℕ). x + h .chosen) ew in
       rw d
-      (ask-chosen 32 (root s) mask values (h .chosen) (R .valued) (rw (R .net-of .opens) at (R .entered)) (rw (e, f) at (h .inside))
+      (ask-chosen (variables s) (root s) mask values (h .chosen) (R .valued) (rw (R .net-of .opens) at (R .entered)) (rw (e, f) at (h .inside))
       (ap (λ (x : ℕ). truth (root s) (bit x)) (sym d) ∙ explains-truth (h .explains))
       (λ z l i. ap (λ (x : ℕ). truth (root s) (bit (x + z))) (sym ew) ∙ h .least z (rw (e, f) i) (omega (arith, h .is))))
 
-  pub ask-lost : {loose w r : ℕ} → loose ≡ without (freeOf net) mask → w ≡ values → Lost (root s) true loose w r → ask 32 (root s) mask values ≡ Question.no
+  pub ask-lost : {loose w r : ℕ} → loose ≡ without (freeOf net) mask → w ≡ values → Lost (root s) true loose w r → ask (variables s) (root s) mask values ≡ Question.no
   ask-lost {r = r} e ew h =
-      ask-explained 32 (root s) mask values (rw ew at (h .explains)) (λ k i. bits-sub (reason-inside (h .explains) (rw e at (h .apart))) k i)
+      ask-explained (variables s) (root s) mask values (rw ew at (h .explains)) (λ k i. bits-sub (reason-inside (h .explains) (rw e at (h .apart))) k i)
 
   -- ---- the verdict with its record, as the code has them: f and n are read off the net, and a record is put of the low parts of words
 
-  module _ {f loose m w n : ℕ} {u1 : List ℕ} {c1 : ℕ} {o1 : List ℕ} {d1 : ℕ} (ef : f ≡ freeOf net) (el : loose ≡ without f mask) (M : Made mask values m w) (en : n ≡ framesOf net)
-      (G : Both.TablesGrown (formulaAt net) (framesOf net) u cu o co u1 c1 o1 d1) where
+  module _ {F : Form} {f loose m w n : ℕ} {u1 : List ℕ} {c1 : ℕ} {o1 : List ℕ} {d1 : ℕ} (eF : F ≡ netForm net) (ef : f ≡ freeOf net) (el : loose ≡ without f mask) (M : Made mask values m w) (en : n ≡ framesOf net)
+      (G : Both.TablesGrown (netForm net) (formulaAt net) (framesOf net) u cu o co u1 c1 o1 d1) where
     loose-is : loose ≡ without (freeOf net) mask
     loose-is = rw ef at el
+
+    form-is : F ≡ s .form
+    form-is = eF ∙ net-form (R .net-of)
 
     values-are : w ≡ values
     values-are = made-same M (R .valued)
@@ -141,15 +151,15 @@ module _ {s net : List ℕ} {mask values : ℕ} {u : List ℕ} {cu : ℕ} {o : L
     frame-is = rw (en, R .net-of .count) refl
 
     pub answered-yes : {word r assigned setting reason : ℕ} {u2 : List ℕ} {c2 : ℕ} → Found (formulaAt net (framesOf net - 1)) (val 2) loose w word r
-        → assigned ≡ f % 4294967296 → setting ≡ word % 4294967296 → reason ≡ r % 4294967296 → Ensured u1 c1 u2 c2 (n - 1) assigned setting reason
-        → Same (ask 32 (root s) mask values) true word × TablesGrown s u cu o co u2 c2 o1 d1 × Promised s mask values (ask 32 (root s) mask values) u2 c2 o1 d1
+        → assigned ≡ f % wordEnd F → setting ≡ word % wordEnd F → reason ≡ r % wordEnd F → Ensured F u1 c1 u2 c2 (n - 1) assigned setting reason
+        → Same (ask (variables s) (root s) mask values) true word × TablesGrown s u cu o co u2 c2 o1 d1 × Promised s mask values (ask (variables s) (root s) mask values) u2 c2 o1 d1
     unfolding val
     answered-yes {assigned = assigned} h′ ea es er N′ =
         let h = ready-found h′ in
         let k = ready-grown G in
         let a = ask-found loose-is values-are h in
-        let free-is : assigned ≡ freeOf net = low-same (sub-refl (freeOf net)) (rw ef at ea) in
-        let N = rw (frame-is, free-is, low-same (word-free loose-is values-are h) es, low-same (reason-free (h .explains)) er) at N′ in (
+        let free-is : assigned ≡ freeOf net = low-same (sub-refl (freeOf net)) (rw (ef, form-is) at ea) in
+        let N = rw (frame-is, free-is, low-same (word-free loose-is values-are h) (rw form-is at es), low-same (reason-free (h .explains)) (rw form-is at er), form-is) at N′ in (
           record { holds = rw a; word = rw a },
           record {
             tables = record { under = N .valid (formula s) (frames s) true (k .tables .under) (omega (arith, R .checked .some)) (h .explains); over = k .tables .over };
@@ -160,14 +170,14 @@ module _ {s net : List ℕ} {mask values : ℕ} {u : List ℕ} {cu : ℕ} {o : L
         )
 
     pub answered-no : {r assigned setting reason : ℕ} {o2 : List ℕ} {d2 : ℕ} → Lost (formulaAt net (framesOf net - 1)) (val 2) loose w r
-        → assigned ≡ mask % 4294967296 → setting ≡ values % 4294967296 → reason ≡ r % 4294967296 → Ensured o1 d1 o2 d2 (n - 1) assigned setting reason
-        → Same (ask 32 (root s) mask values) false 0 × TablesGrown s u cu o co u1 c1 o2 d2 × Promised s mask values (ask 32 (root s) mask values) u1 c1 o2 d2
+        → assigned ≡ mask % wordEnd F → setting ≡ values % wordEnd F → reason ≡ r % wordEnd F → Ensured F o1 d1 o2 d2 (n - 1) assigned setting reason
+        → Same (ask (variables s) (root s) mask values) false 0 × TablesGrown s u cu o co u1 c1 o2 d2 × Promised s mask values (ask (variables s) (root s) mask values) u1 c1 o2 d2
     unfolding val
     answered-no h′ ea es er N′ =
         let h = ready-lost h′ in
         let k = ready-grown G in
         let a = ask-lost loose-is values-are h in
-        let N = rw (frame-is, low-same (R .entered) ea, low-same (sub-trans (R .valued) (R .entered)) es, low-same (reason-free (h .explains)) er) at N′ in (
+        let N = rw (frame-is, low-same (R .entered) (rw form-is at ea), low-same (sub-trans (R .valued) (R .entered)) (rw form-is at es), low-same (reason-free (h .explains)) (rw form-is at er), form-is) at N′ in (
           record { holds = rw a; word = rw a },
           record {
             tables = record { under = k .tables .under; over = N .valid (formula s) (frames s) false (k .tables .over) (omega (arith, R .checked .some)) (rw values-are at (h .explains)) };

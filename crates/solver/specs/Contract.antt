@@ -5,7 +5,8 @@ use mathlib.Core.Bool.{Bool, true, false}
 use mathlib.Core.List.{List}
 use Rattle.words.specs.Mask.{Sub}
 use Rattle.formula.specs.Ask.{Verdict, freeMask}
-use Rattle.sheet.specs.Frames.{frames, formula}
+use Rattle.sheet.specs.Fields.{Sheet, frames, variables}
+use Rattle.sheet.specs.Frames.{formula}
 use Rattle.records.specs.Table.{Kept}
 use Rattle.records.specs.Both as Both
 use Rattle.net.specs.Layout.{freeOf}
@@ -14,15 +15,15 @@ use Rattle.net.specs.Sheet.{Checked, NetOf}
 pub use Rattle.net.specs.Sheet.{last, root}
 
 -- every counted record is true of its frame
-abbrev pub Tables : List ℕ → List ℕ → ℕ → List ℕ → ℕ → Type 0
-Tables s u cu o co = Both.Tables (formula s) (frames s) u cu o co
+abbrev pub Tables : Sheet → List ℕ → ℕ → List ℕ → ℕ → Type 0
+Tables s u cu o co = Both.Tables (s .form) (formula s) (frames s) u cu o co
 
 -- the tables at exit: true, with every record that was counted, and behind their counts as they were
-abbrev pub TablesGrown : List ℕ → List ℕ → ℕ → List ℕ → ℕ → List ℕ → ℕ → List ℕ → ℕ → Type 0
-TablesGrown s u cu o co u' cu' o' co' = Both.TablesGrown (formula s) (frames s) u cu o co u' cu' o' co'
+abbrev pub TablesGrown : Sheet → List ℕ → ℕ → List ℕ → ℕ → List ℕ → ℕ → List ℕ → ℕ → Type 0
+TablesGrown s u cu o co u' cu' o' co' = Both.TablesGrown (s .form) (formula s) (frames s) u cu o co u' cu' o' co'
 
 -- a checked sheet and its net, entries among its free variables, and true tables
-pub record Ready (s net : List ℕ) (mask values : ℕ) (u : List ℕ) (cu : ℕ) (o : List ℕ) (co : ℕ) : Type 0 where
+pub record Ready (s : Sheet) (net : List ℕ) (mask values : ℕ) (u : List ℕ) (cu : ℕ) (o : List ℕ) (co : ℕ) : Type 0 where
   pub checked : Checked s (freeOf net)
   pub net-of : NetOf s net
   pub entered : Sub mask (freeOf net)
@@ -31,10 +32,10 @@ pub record Ready (s net : List ℕ) (mask values : ℕ) (u : List ℕ) (cu : ℕ
 
 -- document 01's promise after an ASK: the table concerned is full, or holds a record of the last frame that agrees with
 -- the word (yes), or with the entries and with a mask inside the entered variables (no)
-abbrev pub Promised : List ℕ → ℕ → ℕ → Verdict → List ℕ → ℕ → List ℕ → ℕ → Type 0
+abbrev pub Promised : Sheet → ℕ → ℕ → Verdict → List ℕ → ℕ → List ℕ → ℕ → Type 0
 Promised s mask values a u cu o co =
-    (a .holds ≡ true → Kept u cu (last s) (freeMask 32 (root s)) (a .word))
-    × (a .holds ≡ false → Kept o co (last s) mask values)
+    (a .holds ≡ true → Kept (s .form) u cu (last s) (freeMask (variables s) (root s)) (a .word))
+    × (a .holds ≡ false → Kept (s .form) o co (last s) mask values)
 
 -- an answer with its verdict v and word w is the one that the definitions give
 pub record Same (a : Verdict) (v : Bool) (w : ℕ) : Type 0 where

@@ -1,28 +1,40 @@
 -- The net with a question's quantifier can be searched, and what the search finds there is found of the last frame. Assumes nothing.
-use Prim.Native.Nat.{ℕ, _-_, _≤_, _<_}
+use Prim.Native.Nat.{ℕ, _+_, _-_, _≤_, _<_}
 use native.Mathlib.Omega.{arith}
 use mathlib.Core.Path.{_≡_, refl, sym, _∙_, ap}
 use mathlib.Core.Bool.{Bool, true, false, not, _&&_}
 use mathlib.Core.List.{List}
-use lib.ListN.{length, replicate}
+use lib.ListN.{length, replicate, length-replicate}
 use Rattle.words.specs.Logic.{clash, and-both}
 use Rattle.words.specs.Word.{bit}
 use Rattle.words.specs.Mask.{Sub, Apart, without, bit-without, without-sum, without-sub, without-apart, apart-sub, apart-sym}
 use Rattle.formula.specs.Formula.{Formula, free}
+use Rattle.form.specs.declared.Form.{Form}
+use Rattle.sheet.specs.Fields.{Sheet}
 use Rattle.records.specs.Both.{TablesGrown}
 use Rattle.net.specs.Over.{over-free}
 use Rattle.net.specs.Net.{Binds, at-binds}
 use Rattle.net.specs.Stands.{Stands, stands-refl}
-use Rattle.net.specs.Layout.{framesOf, freeOf, packed, formulaAt, Ground, HasNode, Is, val, decides}
+use Rattle.net.specs.Layout.{netWords, netForm, form-same, framesOf, freeOf, packed, formulaAt, Ground, HasNode, Is, val, decides}
+use Rattle.net.specs.Sheet.{net-form}
 use Rattle.net.specs.Own.{Chosen}
 use Rattle.net.specs.OwnLaws.{chosen-count, chosen-long, chosen-ground, chosen-same, chosen-node, chosen-clear, is-chosen, is-chosen-val}
 use Rattle.judge.specs.Judge.{Judged}
 use Rattle.judge.specs.JudgeLaws.{judged-none}
 use Rattle.search.specs.Search.{Solved, Checked, Lent}
 use Rattle.solver.specs.Across.{tables-stands, grown-stands, root-stands, bit-opens}
-use Rattle.solver.specs.Question.{scratchWords, Asking}
+use Rattle.solver.specs.Question.{Asking, Scratch}
 
-module _ {s net : List ℕ} {t loose m w : ℕ} {u : List ℕ} {cu : ℕ} {o : List ℕ} {co : ℕ} (A : Asking s net t loose m w u cu o co)
+-- scratch that is all 0, of n words
+pub blank-scratch : (n : ℕ) {net cells wants : List ℕ} → length net ≤ 66 + n → cells ≡ replicate n 0 → wants ≡ replicate n 0 → Scratch net cells wants
+blank-scratch n l ec ew = record { words = n; enough = l; empty = ec; wanted = rw (ew, length-replicate) }
+
+-- how many words the net of a question has, by the form that it tells
+pub asked-words : {s : Sheet} {net : List ℕ} {t loose m w : ℕ} {u : List ℕ} {cu : ℕ} {o : List ℕ} {co : ℕ} → Asking s net t loose m w u cu o co
+    → (F : Form) → netForm net ≡ F → length net ≡ netWords F
+asked-words A F e = A .net-of .long ∙ ap netWords (sym (net-form (A .net-of)) ∙ e)
+
+module _ {s : Sheet} {net : List ℕ} {t loose m w : ℕ} {u : List ℕ} {cu : ℕ} {o : List ℕ} {co : ℕ} (A : Asking s net t loose m w u cu o co)
     {net′ : List ℕ} (C : Chosen net t loose net′) where
   loose-sub : Sub loose (freeOf net)
   loose-sub = rw (A .loose-is) (without-sub (freeOf net) m)
@@ -59,9 +71,12 @@ module _ {s net : List ℕ} {t loose m w : ℕ} {u : List ℕ} {cu : ℕ} {o : L
       go true false e f = f
       go false b e f = clash false e refl
 
+  same-form : netForm net′ ≡ netForm net
+  same-form = form-same net net′ (chosen-long (A .net-of) loose-sub C)
+
   -- in scratch that is all 0 nothing is known
-  pub asked-blank : {cells : List ℕ} → cells ≡ replicate scratchWords 0 → Judged net′ m w cells
-  asked-blank e = judged-none scratchWords e (omega (arith, chosen-long (A .net-of) loose-sub C, A .net-of .long))
+  pub asked-blank : {cells wants : List ℕ} → Scratch net cells wants → Judged net′ m w cells
+  asked-blank S = judged-none (S .words) (S .empty) (omega (arith, chosen-long (A .net-of) loose-sub C, S .enough))
 
   pub asked-checked : {i : ℕ} {cells : List ℕ} → i ≡ framesOf net′ → Judged net′ m w cells → Checked net′ i m w cells
   asked-checked e j = rw e (record {
@@ -72,10 +87,10 @@ module _ {s net : List ℕ} {t loose m w : ℕ} {u : List ℕ} {cu : ℕ} {o : L
     judged = j;
   })
 
-  pub asked-lent : {wants : List ℕ} → length wants ≡ scratchWords → Lent net′ wants u cu o co
-  asked-lent l = record {
-    long = omega (arith, chosen-long (A .net-of) loose-sub C, A .net-of .long, l);
-    tables = tables-stands frame-stood (rw (chosen-count (A .net-of) loose-sub C) (A .tables));
+  pub asked-lent : {cells wants : List ℕ} → Scratch net cells wants → Lent net′ wants u cu o co
+  asked-lent S = record {
+    long = omega (arith, chosen-long (A .net-of) loose-sub C, S .enough, S .wanted);
+    tables = tables-stands frame-stood (rw (chosen-count (A .net-of) loose-sub C, same-form) (A .tables));
   }
 
   module _ {i op left right mask : ℕ} (e : i ≡ framesOf net′) (I : Is net′ i op left right mask) where
@@ -108,5 +123,5 @@ module _ {s net : List ℕ} {t loose m w : ℕ} {u : List ℕ} {cu : ℕ} {o : L
 
   -- and the tables that the search leaves
   pub asked-grown : {u' : List ℕ} {cu' : ℕ} {o' : List ℕ} {co' : ℕ}
-      → TablesGrown (formulaAt net′) (framesOf net′) u cu o co u' cu' o' co' → TablesGrown (formulaAt net) (framesOf net) u cu o co u' cu' o' co'
-  asked-grown G = grown-stands frame-stands (rw (chosen-count (A .net-of) loose-sub C) at G)
+      → TablesGrown (netForm net′) (formulaAt net′) (framesOf net′) u cu o co u' cu' o' co' → TablesGrown (netForm net) (formulaAt net) (framesOf net) u cu o co u' cu' o' co'
+  asked-grown G = grown-stands frame-stands (rw (chosen-count (A .net-of) loose-sub C, same-form) at G)

@@ -5,10 +5,11 @@ use cube::Cube64;
 use records::Counts;
 use words::w64;
 ghost use mathlib.Core.Path.{_≡_};
-ghost use mathlib.Core.List.{List};
 ghost use Prim.Native.Nat.{ℕ, _<_};
 ghost use Rattle.formula.specs.Why.{why, reduce};
-ghost use Rattle.net.specs.Layout.{val};
+ghost use Rattle.form.specs.Form as Sizes;
+ghost use Rattle.net.specs.Layout.{netForm, val};
+ghost use Rattle.sheet.specs.Fields.{Sheet, variables};
 ghost use Rattle.solver.specs.Contract.{root, Ready, TablesGrown, Same};
 ghost use Rattle.solver.specs.Why.{Held, Turned};
 
@@ -31,9 +32,9 @@ fn dropped(
     kept: Counts,
 ) -> Left
     requires { ⌜ (0 < v) × (v < 3) × (variable < 64) ⌝ }
-    requires { ⌜ ((s : List ℕ) × Ready s (now net) (cube .mask) (cube .values) (now under) (kept .under) (now over) (kept .over)) ⌝ }
+    requires { ⌜ ((s : Sheet) × Ready s (now net) (cube .mask) (cube .values) (now under) (kept .under) (now over) (kept .over)) ⌝ }
     ensures { λ r. ⌜ now (net .exit) ≡ now (net .entry) ⌝ }
-    ensures { λ r. ⌜ ((s : List ℕ) → Ready s (now (net .entry)) (cube .mask) (cube .values) (now (under .entry)) (kept .under) (now (over .entry)) (kept .over) → Turned s v (cube .mask) (cube .values) reason variable (r .cube .mask) (r .cube .values) (r .reason) × TablesGrown s (now (under .entry)) (kept .under) (now (over .entry)) (kept .over) (now (under .exit)) (r .kept .under) (now (over .exit)) (r .kept .over)) ⌝ }
+    ensures { λ r. ⌜ ((s : Sheet) → Ready s (now (net .entry)) (cube .mask) (cube .values) (now (under .entry)) (kept .under) (now (over .entry)) (kept .over) → Turned s v (cube .mask) (cube .values) reason variable (r .cube .mask) (r .cube .values) (r .reason) × TablesGrown s (now (under .entry)) (kept .under) (now (over .entry)) (kept .over) (now (under .exit)) (r .kept .under) (now (over .exit)) (r .kept .over)) ⌝ }
 {
     if !w64::has(cube.mask, variable) {
         return Left { cube, reason, kept };
@@ -63,6 +64,14 @@ fn dropped(
     }
 }
 
+// How many variables the sheet of the net may have.
+fn variables_of(net: &[u64]) -> u8
+    ensures { λ r. ⌜ r ≡ Sizes.variables (netForm (now (net .entry))) ⌝ }
+{
+    let form = net::form(net);
+    form::variables(form)
+}
+
 // What is left of the cube when every variable, from the last to the first, was tried.
 fn reduced(
     net: &mut [u64],
@@ -74,12 +83,12 @@ fn reduced(
     kept: Counts,
 ) -> Left
     requires { ⌜ (0 < v) × (v < 3) ⌝ }
-    requires { ⌜ ((s : List ℕ) × Ready s (now net) (cube .mask) (cube .values) (now under) (kept .under) (now over) (kept .over) × Held s v (cube .values) (cube .mask) (cube .values) reason) ⌝ }
+    requires { ⌜ ((s : Sheet) × Ready s (now net) (cube .mask) (cube .values) (now under) (kept .under) (now over) (kept .over) × Held s v (cube .values) (cube .mask) (cube .values) reason) ⌝ }
     ensures { λ r. ⌜ now (net .exit) ≡ now (net .entry) ⌝ }
-    ensures { λ r. ⌜ ((s : List ℕ) → Ready s (now (net .entry)) (cube .mask) (cube .values) (now (under .entry)) (kept .under) (now (over .entry)) (kept .over) → Held s v (cube .values) (cube .mask) (cube .values) reason → (r .cube .mask ≡ reduce 32 (root s) (cube .values) (val v) 32 (cube .mask)) × TablesGrown s (now (under .entry)) (kept .under) (now (over .entry)) (kept .over) (now (under .exit)) (r .kept .under) (now (over .exit)) (r .kept .over)) ⌝ }
+    ensures { λ r. ⌜ ((s : Sheet) → Ready s (now (net .entry)) (cube .mask) (cube .values) (now (under .entry)) (kept .under) (now (over .entry)) (kept .over) → Held s v (cube .values) (cube .mask) (cube .values) reason → (r .cube .mask ≡ reduce (variables s) (root s) (cube .values) (val v) (variables s) (cube .mask)) × TablesGrown s (now (under .entry)) (kept .under) (now (over .entry)) (kept .over) (now (under .exit)) (r .kept .under) (now (over .exit)) (r .kept .over)) ⌝ }
 {
     let mut left = Left { cube, reason, kept };
-    let mut x: u8 = 32;
+    let mut x = variables_of(&net[..]);
     while x > 0 {
         x -= 1;
         let last = left.cube;
@@ -98,9 +107,9 @@ pub fn why(
     over: &mut [u32],
     kept: Counts,
 ) -> Answered
-    requires { ⌜ ((s : List ℕ) × Ready s (now net) mask values (now under) (kept .under) (now over) (kept .over)) ⌝ }
+    requires { ⌜ ((s : Sheet) × Ready s (now net) mask values (now under) (kept .under) (now over) (kept .over)) ⌝ }
     ensures { λ r. ⌜ now (net .exit) ≡ now (net .entry) ⌝ }
-    ensures { λ r. ⌜ ((s : List ℕ) → Ready s (now (net .entry)) mask values (now (under .entry)) (kept .under) (now (over .entry)) (kept .over) → Same (why 32 (root s) mask values) (r .holds) (r .word) × TablesGrown s (now (under .entry)) (kept .under) (now (over .entry)) (kept .over) (now (under .exit)) (r .kept .under) (now (over .exit)) (r .kept .over)) ⌝ }
+    ensures { λ r. ⌜ ((s : Sheet) → Ready s (now (net .entry)) mask values (now (under .entry)) (kept .under) (now (over .entry)) (kept .over) → Same (why (variables s) (root s) mask values) (r .holds) (r .word) × TablesGrown s (now (under .entry)) (kept .under) (now (over .entry)) (kept .over) (now (under .exit)) (r .kept .under) (now (over .exit)) (r .kept .over)) ⌝ }
 {
     let free = net::free(&net[..]);
     let entered = Cube64::of(mask, values);

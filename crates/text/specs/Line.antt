@@ -1,4 +1,5 @@
--- A line of the text: eight digits and what ends the line. Each definition takes what is left of the text. Assumes nothing.
+-- A line of the text: two digits for each byte of its frame and what ends the line. Each definition takes what is left of the text; w is how many bytes
+-- the line's frame has. Assumes nothing.
 use Prim.Native.Nat.{ℕ, zero, suc, _+_, _*_, _≤_, _<_}
 use mathlib.Core.Bool.{Bool, true, cond, _&&_}
 use mathlib.Core.List.{List, [], _∷_, _++_}
@@ -22,18 +23,10 @@ unfoldable pub digits : ℕ → List ℕ → Bool
 digits zero l = true
 digits (suc n) l = ltb (digitValue (head l)) 16 && digits n (drop 1 l)
 
--- a frame has four bytes
-abbrev pub frameBytes : ℕ
-frameBytes = 4
-
--- a line has two digits for each byte of its frame
-abbrev pub lineDigits : ℕ
-lineDigits = 2 * frameBytes
-
--- how many bytes the line here takes, its end counted in; 0 where it is not eight digits and a line's end
-unfoldable pub lineSize : List ℕ → ℕ
-lineSize l =
-    cond (digits lineDigits l && ltb 0 (ending (drop lineDigits l))) (lineDigits + ending (drop lineDigits l)) 0
+-- how many bytes the line here takes, its end counted in; 0 where it is not the digits of w bytes and a line's end
+unfoldable pub lineSize : ℕ → List ℕ → ℕ
+lineSize w l =
+    cond (digits (2 * w) l && ltb 0 (ending (drop (2 * w) l))) (2 * w + ending (drop (2 * w) l)) 0
 
 -- the byte that two digits give, the high one first
 abbrev pub byteHere : List ℕ → ℕ
@@ -59,16 +52,16 @@ abbrev pub noLines : List ℕ → Lines
 noLines l = record { count = 0; frames = []; rest = l }
 
 -- one line more, in front
-abbrev pub lineThen : List ℕ → Lines → Lines
-lineThen l k = record { count = suc (k .count); frames = bytes frameBytes l ++ k .frames; rest = k .rest }
+abbrev pub lineThen : ℕ → List ℕ → Lines → Lines
+lineThen w l k = record { count = suc (k .count); frames = bytes w l ++ k .frames; rest = k .rest }
 
 -- the lines that stand here in a row, `most` at most
-unfoldable pub lines : ℕ → List ℕ → Lines
-lines zero l = noLines l
-lines (suc most) l = cond (ltb 0 (lineSize l)) (lineThen l (lines most (drop (lineSize l) l))) (noLines l)
+unfoldable pub lines : ℕ → ℕ → List ℕ → Lines
+lines w zero l = noLines l
+lines w (suc most) l = cond (ltb 0 (lineSize w l)) (lineThen w l (lines w most (drop (lineSize w l) l))) (noLines l)
 
 -- what counting the lines of a text from a place on gives
-pub record LinesAt (text : List ℕ) (from most : ℕ) (r : Counted) : Type 0 where
-  pub count : r .count ≡ lines most (drop from text) .count
-  pub rest : drop (r .end) text ≡ lines most (drop from text) .rest
+pub record LinesAt (w : ℕ) (text : List ℕ) (from most : ℕ) (r : Counted) : Type 0 where
+  pub count : r .count ≡ lines w most (drop from text) .count
+  pub rest : drop (r .end) text ≡ lines w most (drop from text) .rest
   pub within : r .end ≤ length text

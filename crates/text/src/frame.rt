@@ -4,15 +4,10 @@ ghost use mathlib.Core.Bool.{true};
 ghost use Prim.Native.Nat.{_+_, _*_, _≤_, _<_};
 ghost use lib.ListN.{length, drop};
 ghost use lib.Seq.{sets};
-ghost use Rattle.text.specs.Line.{TwoDigits, byteHere, bytes, digits, lines, frameBytes};
+ghost use Rattle.text.specs.Line.{TwoDigits, byteHere, bytes, digits, lines};
 use crate::hex::digit_value;
 use crate::line::byte_at;
 use crate::line::line_size;
-
-// The bytes of a frame, and of its line.
-pub const BYTES: usize = 4;
-
-pub const LINE_BYTES: usize = 9;
 
 // The byte that two digits give.
 fn byte(text: &[u8], at: usize) -> u8
@@ -38,18 +33,18 @@ fn put_bytes(text: &[u8], from: usize, count: usize, out: &mut [u8], place: usiz
     }
 }
 
-// Writes the frames of `count` lines that stand in a row from a place on.
-pub fn put_frames(text: &[u8], from: usize, count: usize, out: &mut [u8])
-    requires { ⌜ (from ≤ length (now text)) × (lines count (drop from (now text)) .count ≡ count) × (count * frameBytes ≤ length (now out)) ⌝ }
-    ensures { λ _. ⌜ now (out .exit) ≡ sets (now (out .entry)) 0 (lines count (drop from (now (text .entry))) .frames) ⌝ }
+// Writes the frames, of `size` bytes each, of `count` lines that stand in a row from a place on.
+pub fn put_frames(text: &[u8], from: usize, size: usize, count: usize, out: &mut [u8])
+    requires { ⌜ (from ≤ length (now text)) × (size ≤ 16) × (lines size count (drop from (now text)) .count ≡ count) × (count * size ≤ length (now out)) ⌝ }
+    ensures { λ _. ⌜ now (out .exit) ≡ sets (now (out .entry)) 0 (lines size count (drop from (now (text .entry))) .frames) ⌝ }
 {
     let mut i: usize = 0;
     let mut at = from;
     let mut to: usize = 0;
     while i < count {
-        put_bytes(text, at, BYTES, out, to);
+        put_bytes(text, at, size, out, to);
         i += 1;
-        at += line_size(text, at);
-        to += BYTES;
+        at += line_size(text, at, size);
+        to += size;
     }
 }

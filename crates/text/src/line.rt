@@ -1,13 +1,10 @@
-// The lines of a text: where they end, and how many stand in a row. What ends a line is told by `ending` alone.
+// The lines of a text: where they end, and how many stand in a row. What ends a line is told by `ending` alone. A line has two digits for each byte of
+// its frame, and `size` is the number of these bytes.
 ghost use mathlib.Core.Path.{_≡_};
 ghost use Prim.Native.Nat.{_+_, _≤_, _<_};
 ghost use lib.ListN.{length, drop};
 ghost use Rattle.text.specs.Line.{head, ending, digits, lineSize, LinesAt};
-use crate::frame::BYTES;
 use crate::hex::digit_value;
-
-// Two for each byte of a frame.
-const DIGITS: usize = 2 * BYTES;
 
 // Lines in a row: how many, and where they end.
 pub struct Counted {
@@ -59,35 +56,36 @@ fn digits(text: &[u8], from: usize, count: usize) -> bool
     true
 }
 
-// How many bytes the line at a place takes, 0 where it is not eight digits and a line's end.
-pub fn line_size(text: &[u8], at: usize) -> usize
-    requires { ⌜ at ≤ length (now text) ⌝ }
-    ensures { λ r. ⌜ r ≡ lineSize (drop at (now (text .entry))) ⌝ }
+// How many bytes the line at a place takes, 0 where it is not the digits of `size` bytes and a line's end.
+pub fn line_size(text: &[u8], at: usize, size: usize) -> usize
+    requires { ⌜ (at ≤ length (now text)) × (size ≤ 16) ⌝ }
+    ensures { λ r. ⌜ r ≡ lineSize size (drop at (now (text .entry))) ⌝ }
 {
-    if !digits(text, at, DIGITS) {
+    let count = 2 * size;
+    if !digits(text, at, count) {
         return 0;
     }
-    let end = ending(text, at + DIGITS);
+    let end = ending(text, at + count);
     if end == 0 {
         return 0;
     }
-    DIGITS + end
+    count + end
 }
 
 // The lines that stand in a row from a place on, `most` at most.
-pub fn lines(text: &[u8], from: usize, most: usize) -> Counted
-    requires { ⌜ from ≤ length (now text) ⌝ }
-    ensures { λ r. ⌜ LinesAt (now (text .entry)) from most r ⌝ }
+pub fn lines(text: &[u8], from: usize, size: usize, most: usize) -> Counted
+    requires { ⌜ (from ≤ length (now text)) × (size ≤ 16) ⌝ }
+    ensures { λ r. ⌜ LinesAt size (now (text .entry)) from most r ⌝ }
 {
     let mut count: usize = 0;
     let mut end = from;
     while count < most {
-        let size = line_size(text, end);
-        if size == 0 {
+        let bytes = line_size(text, end, size);
+        if bytes == 0 {
             return Counted { count, end };
         }
         count += 1;
-        end += size;
+        end += bytes;
     }
     Counted { count, end }
 }

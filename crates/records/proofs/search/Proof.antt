@@ -4,22 +4,23 @@ use Prim.Native.Nat.{_≤_, _-_}
 use native.Mathlib.Omega.{arith}
 use borrow.Author.Needs.{needs}
 use borrow.Author.Count.{below-more}
+use Rattle.form.specs.Form.{fits-room}
 use Rattle.records.specs.Table.{matches}
 use Rattle.records.specs.Search.{NoneBelow}
 use Rattle.records.proofs.search.Statement.{statement}
 use Rattle.records.proofs.search.Tie as tie
 
 abbrev Inv-loop : tie.InvT-loop
-Inv-loop table count frame assigned setting j₀ j = (j ≤ count) × NoneBelow (matches table frame assigned setting) j
+Inv-loop table form count frame assigned setting j₀ j = (j ≤ count) × NoneBelow (matches form table frame assigned setting) j
 
 abbrev μ-loop : tie.MeasureT-loop
-μ-loop table count frame assigned setting j₀ j = count - j
+μ-loop table form count frame assigned setting j₀ j = count - j
 
 loop-holds : tie.Need-loop-holds Inv-loop μ-loop
 loop-holds c = (omega arith, λ i l. absurd (omega arith))
 
 matches-at-requires : tie.Need-matches-at-requires Inv-loop μ-loop
-matches-at-requires c κs = search needs
+matches-at-requires c κs = omega (arith, fits-room (c .before .before .before .args .form) (c .before .before .before .pre))
 
 returns : tie.Need-returns Inv-loop μ-loop
 returns c = record {

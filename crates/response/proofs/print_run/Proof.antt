@@ -1,72 +1,41 @@
--- `response::print_run` meets its contract: the answers' part that is handed on holds the reference model's bytes, and a refusal's place fits a byte.
--- Assumes nothing.
+-- `response::print_run` meets its contract: an arm for each form. Assumes nothing.
 use borrow.Author.Needs.{needs}
-use native.Mathlib.Omega.{arith}
-use Rattle.response.specs.PrintedLaws.{prints-same, counted, place-fits, run-refused, answers-start, run-answered}
 use Rattle.response.proofs.print_run.Statement.{statement}
 use Rattle.response.proofs.print_run.Tie as tie
 
-slice-aggregate-run : tie.Need-slice-aggregate-run
-slice-aggregate-run c = search needs
+enum-told : tie.Need-enum-told
+enum-told c = search needs
 
-slice-aggregate-run-2 : tie.Need-slice-aggregate-run-2
-slice-aggregate-run-2 c = search needs
+print-narrow-requires : tie.Need-print-narrow-requires
+print-narrow-requires c κs = search needs
 
-slice-aggregate-run-3 : tie.Need-slice-aggregate-run-3
-slice-aggregate-run-3 c = search needs
+enum-told-2 : tie.Need-enum-told-2
+enum-told-2 c = search needs
 
-run-requires : tie.Need-run-requires
-run-requires c κs = search needs
-
-cast-place : tie.Need-cast-place
-cast-place c = record { fits = place-fits (c .before .before .before .before .before .before .run .ensures) (omega arith) }
-
-print-refusal-requires : tie.Need-print-refusal-requires
-print-refusal-requires c κs = search needs
+print-wide-requires : tie.Need-print-wide-requires
+print-wide-requires c κs = search needs
 
 same-length : tie.Need-same-length
 same-length c = search needs
 
 returns : tie.Need-returns
-returns c =
-    let g = c .before .before .before .before .before .before .before .before .before .before .run .ensures in
-    prints-same (run-refused g (omega arith) (c .before .before .before .before .before .if1 .taken)) (c .before .before .print-refusal .ensures)
-
-mul-end : tie.Need-mul-end
-mul-end c = search needs
-
-array-share-prefix-answers : tie.Need-array-share-prefix-answers
-array-share-prefix-answers c = omega (arith, answers-start (c .before .before .before .before .before .run .ensures) (omega arith) (c .if1 .left) .fits)
-
-slice-aggregate-print-answers : tie.Need-slice-aggregate-print-answers
-slice-aggregate-print-answers c = counted _ _ (omega (arith, answers-start (c .before .before .before .before .before .before .run .ensures) (omega arith) (c .before .if1 .left) .fits))
-
-print-answers-requires : tie.Need-print-answers-requires
-print-answers-requires c κs = search needs
+returns c = rw (c .before .before .before .before .enum-told .given .1) (c .before .before .print-narrow .ensures)
 
 same-length-2 : tie.Need-same-length-2
 same-length-2 c = search needs
 
 returns-2 : tie.Need-returns-2
-returns-2 c =
-    let g = c .before .before .before .before .before .before .before .before .before .before .run .ensures in
-    prints-same (run-answered g (omega arith) (c .before .before .before .before .before .if1 .left)) (c .before .before .print-answers .ensures)
+returns-2 c = rw (c .before .before .before .before .enum-told2 .given .1) (c .before .before .print-wide .ensures)
 
 pub print-run-spec : {M : Type 1} → statement M
 print-run-spec =
     tie.close
     (tie.spec
-    slice-aggregate-run
-    slice-aggregate-run-2
-    slice-aggregate-run-3
-    run-requires
-    cast-place
-    print-refusal-requires
+    enum-told
+    print-narrow-requires
+    enum-told-2
+    print-wide-requires
     same-length
     returns
-    mul-end
-    array-share-prefix-answers
-    slice-aggregate-print-answers
-    print-answers-requires
     same-length-2
     returns-2)

@@ -1,15 +1,8 @@
 -- `sheet::kind_of` meets its contract: each arm of the match is one test of `kindOf`.
-use borrow.Author.Needs.{needs}
 use borrow.Author.Tests.{ne-eqb}
-use Rattle.sheet.specs.Frames.{kindOf}
+use Rattle.sheet.specs.Fields.{kindOf}
 use Rattle.sheet.proofs.kind_of.Statement.{statement}
 use Rattle.sheet.proofs.kind_of.Tie as tie
-
-wide-requires : tie.Need-wide-requires
-wide-requires c κs = search needs
-
-wide-requires-2 : tie.Need-wide-requires-2
-wide-requires-2 c κs = search needs
 
 returns : tie.Need-returns
 unfolding kindOf
@@ -17,23 +10,23 @@ returns c = simp (c .match .keys1)
 
 returns-2 : tie.Need-returns-2
 unfolding kindOf
-returns-2 c = simp (c .match .keys2, c .before .before .wide .ensures)
+returns-2 c = simp (c .match .keys2)
 
 returns-3 : tie.Need-returns-3
 unfolding kindOf
-returns-3 c = simp (c .match .keys3, c .before .before .wide .ensures, c .before .wide2 .ensures)
+returns-3 c = simp (c .match .keys3)
 
 returns-4 : tie.Need-returns-4
 unfolding kindOf
-returns-4 c = simp (c .match .keys4, c .before .before .wide .ensures, c .before .wide2 .ensures)
+returns-4 c = simp (c .match .keys4)
 
 returns-5 : tie.Need-returns-5
 unfolding kindOf
-returns-5 c = simp (c .match .keys5, c .before .before .wide .ensures)
+returns-5 c = simp (c .match .keys5)
 
 returns-6 : tie.Need-returns-6
 unfolding kindOf
-returns-6 c = simp (c .match .keys6, c .before .before .wide .ensures)
+returns-6 c = simp (c .match .keys6)
 
 returns-7 : tie.Need-returns-7
 unfolding kindOf
@@ -49,15 +42,4 @@ returns-7 c =
     )
 
 pub kind-of-spec : {M : Type 1} → statement M
-kind-of-spec =
-    tie.close
-    (tie.spec
-    wide-requires
-    wide-requires-2
-    returns
-    returns-2
-    returns-3
-    returns-4
-    returns-5
-    returns-6
-    returns-7)
+kind-of-spec = tie.close (tie.spec returns returns-2 returns-3 returns-4 returns-5 returns-6 returns-7)

@@ -2,10 +2,10 @@
 --     State                    what holds before a turn: where the reader stands, and what the pass and the net are
 --     asked, onward, nearer    what a turn takes from one state to the next. They do not mention the code
 --     At                       the state as a context: the loop's invariant.        Nearer   the order of the turns: the frames from the reader on get fewer
---     Table, Bare              what the net's slice owns, with its machine value as a parameter has it, and without, as it is lent again: Relent.antt
+--     Table, Bare              what the net's slice owns, with its machine value as a parameter has it, and without, as it is lent again: Relent.antt of sheet
 -- All that the proof knows of the three callees is that each meets its contract.
 -- Assumes nothing.
-use mathlib.Core.Path.{_≡_, refl, sym, ap, _∙_, subst}
+use mathlib.Core.Path.{_≡_, refl, sym, ap, ap₂, _∙_, subst}
 use mathlib.Core.Bool.{Bool, true, false}
 use Prim.Native.Nat.{ℕ, _+_, _-_, _<_}
 use native.Mathlib.Omega.{arith}
@@ -50,11 +50,13 @@ use denote.Exit.{yes}
 use borrow.Author.Tests.{ltb-true}
 use borrow.Rule.Slice.Lend.{sl-relent-backˡ}
 use Rattle.words.specs.Logic.{by-bool, tests}
-use Rattle.sheet.specs.Frames.{frames, kind}
-use Rattle.sheet.specs.Reader.{following-in}
+use Rattle.form.specs.Form.{formOf}
+use Rattle.sheet.specs.Fields.{Sheet, sheetOf, frames, kind}
+use Rattle.sheet.specs.Reader.{readBy, following-in}
 use Rattle.sheet.specs.declared.reader.Reader.{Reader}
 use Rattle.sheet.specs.declared.Frame.{Frame}
 use Rattle.sheet.proofs.ReaderCalls.{New, Next, Says, Cell, Own, type-at, value, start, calls-new, calls-next}
+use Rattle.sheet.proofs.Relent.{lent, Table, Bare, Way, bare, valued, lends}
 use Rattle.sheet.proofs.Frame as F
 use Rattle.sheet.proofs.Frame.Laws as F′
 use Rattle.sheet.proofs.reader.new.Symbol as new-def
@@ -65,7 +67,6 @@ use Rattle.sheet.proofs.reader.next.Symbol.{name as #sheet·reader·next}
 use Rattle.sheet.proofs.reader.next.Met as next-thm
 use Rattle.net.specs.Load.{Loading}
 use Rattle.net.specs.declared.decode.Pass.{Pass}
-use Rattle.net.proofs.Relent.{lent, Table, Bare, Way, bare, valued, lends}
 use Rattle.net.proofs.decode.Pass as S
 use Rattle.net.proofs.decode.Pass.Laws as S′
 use Rattle.net.proofs.decode.store as callee
@@ -94,73 +95,86 @@ rest = seq (assign (place 0 []) (rvOpd (copy (place 3 [])))) return
 
 -- ---- the state before a turn, and how a turn takes it on
 
--- frame k is next, and more says whether there is one
-abbrev Goes : List ℕ → List ℕ → ℕ → Bool → Type 0
-Goes s l k more = Loading s l k × (more ≡ ltb k (frames s))
+-- the sheet of these bytes; m tells whether it is wide
+abbrev sheet : Bool → RefT (List ℕ) → Sheet
+sheet m s = sheetOf (formOf m) (now s)
 
-record State (s : RefT (List ℕ)) : Type 0 where
+-- frame k is next, and more says whether there is one
+abbrev Goes : Bool → RefT (List ℕ) → List ℕ → ℕ → Bool → Type 0
+Goes m s l k more = Loading (sheet m s) l k × (more ≡ ltb k (frames (sheet m s)))
+
+record State (s : RefT (List ℕ)) (m : Bool) : Type 0 where
   reader : Reader
   pass : Pass
   words : List ℕ
   bytes-is : reader .bytes ≡ s
-  going : Goes (now s) words (reader .at) (pass .more)
+  wide-is : reader .wide ≡ m
+  kept : pass .wide ≡ m
+  going : Goes m s words (reader .at) (pass .more)
   pass-is : Is S.the-row pass (S′.lowered pass ∷ [])
 
-abbrev Nearer : (s : RefT (List ℕ)) → State s → State s → Type 0
-Nearer s u t = frames (now s) - u .reader .at < frames (now s) - t .reader .at
-
-Nearer-wf : (s : RefT (List ℕ)) → WellFounded (Nearer s)
-Nearer-wf s = InvImage·wf (λ (t : State s). frames (now s) - t .reader .at) (Nat·lt-wfRel .wf)
-
 -- every net of a pass is as long as the first
-same-long : {s l m : List ℕ} {j k : ℕ} → Loading s l j → Loading s m k → length l ≡ length m
+same-long : {s : Sheet} {l m : List ℕ} {j k : ℕ} → Loading s l j → Loading s m k → length l ≡ length m
 same-long L M = L .long ∙ sym (M .long)
 
 -- the loop is left: all frames are stored
-all-stored : {s l : List ℕ} {k : ℕ} {more : Bool} → Goes s l k more → more ≡ false → Loading s l (frames s)
-all-stored {s} {l} {k} G off = subst (Loading s l) (omega (tests, sym (G .1) ∙ off, G .0 .within)) (G .0)
+all-stored : (m : Bool) (s : RefT (List ℕ)) {l : List ℕ} {k : ℕ} {more : Bool} → Goes m s l k more → more ≡ false → Loading (sheet m s) l (frames (sheet m s))
+all-stored m s {l} {k} G off = subst (Loading (sheet m s) l) (omega (tests, sym (G .1) ∙ off, G .0 .within)) (G .0)
 
-module _ (s : RefT (List ℕ)) (t : State s) (more : t .pass .more ≡ true) (d : Frame) (r : Reader) (e : Says (t .reader) d r) where
-  in-sheet : t .reader .at < frames (now s)
-  in-sheet = ltb-true (t .reader .at) (frames (now s)) (sym (t .going .1) ∙ more)
+module _ (s : RefT (List ℕ)) (m : Bool) where
+  abbrev Nearer : State s m → State s m → Type 0
+  Nearer u t = frames (sheet m s) - u .reader .at < frames (sheet m s) - t .reader .at
 
-  asked : Loading (now s) (t .words) (d .number) × (d .number < frames (now s)) × (d .kind ≡ kind (now s) (d .number))
-  asked = (
-    subst (Loading (now s) (t .words)) (sym (e .0)) (t .going .0),
-    subst (λ (k : ℕ). k < frames (now s)) (sym (e .0)) in-sheet,
-    subst (λ (k : ℕ). d .kind ≡ kind (now s) k) (sym (e .0)) (e .1 ∙ ap (λ (b : RefT (List ℕ)). kind (now b) (t .reader .at)) (t .bytes-is)),
-  )
+  Nearer-wf : WellFounded Nearer
+  Nearer-wf = InvImage·wf (λ (t : State s m). frames (sheet m s) - t .reader .at) (Nat·lt-wfRel .wf)
 
-  at-next : r .at ≡ t .reader .at + 1
-  at-next =
-      ap (λ (h : Reader). h .at) (e .2)
-      ∙ following-in (now (t .reader .bytes)) (t .reader .at) (subst (λ (b : RefT (List ℕ)). t .reader .at < frames (now b)) (sym (t .bytes-is)) in-sheet)
+  module _ (t : State s m) (more : t .pass .more ≡ true) (d : Frame) (r : Reader) (e : Says (t .reader) d r) where
+    reads : readBy (t .reader) ≡ sheet m s
+    reads = ap₂ (λ (w : Bool) (b : RefT (List ℕ)). sheet w b) (t .wide-is) (t .bytes-is)
 
-  abbrev onward : (l : List ℕ) (z : Pass) → Goes (now s) l (d .number + 1) (z .more) → Is S.the-row z (S′.lowered z ∷ []) → State s
-  onward l z c is = record {
-    reader = r;
-    pass = z;
-    words = l;
-    bytes-is = ap (λ (h : Reader). h .bytes) (e .2) ∙ t .bytes-is;
-    going = subst (λ (k : ℕ). Goes (now s) l k (z .more)) (ap (λ (k : ℕ). k + 1) (e .0) ∙ sym at-next) c;
-    pass-is = is;
-  }
+    in-sheet : t .reader .at < frames (sheet m s)
+    in-sheet = ltb-true (t .reader .at) (frames (sheet m s)) (sym (t .going .1) ∙ more)
 
-  nearer : frames (now s) - r .at < frames (now s) - t .reader .at
-  nearer = omega (arith, at-next, in-sheet)
+    asked : Loading (sheet (t .pass .wide) s) (t .words) (d .number) × (d .number < frames (sheet (t .pass .wide) s)) × (d .kind ≡ kind (sheet (t .pass .wide) s) (d .number))
+    asked =
+        subst (λ (w : Bool). Loading (sheet w s) (t .words) (d .number) × (d .number < frames (sheet w s)) × (d .kind ≡ kind (sheet w s) (d .number))) (sym (t .kept)) (
+          subst (Loading (sheet m s) (t .words)) (sym (e .0)) (t .going .0),
+          subst (λ (k : ℕ). k < frames (sheet m s)) (sym (e .0)) in-sheet,
+          subst (λ (k : ℕ). d .kind ≡ kind (sheet m s) k) (sym (e .0)) (e .1 ∙ ap (λ (h : Sheet). kind h (t .reader .at)) reads),
+        )
+
+    at-next : r .at ≡ t .reader .at + 1
+    at-next =
+        ap (λ (h : Reader). h .at) (e .2)
+        ∙ following-in (readBy (t .reader)) (t .reader .at) (subst (λ (h : Sheet). t .reader .at < frames h) (sym reads) in-sheet)
+
+    abbrev onward : (l : List ℕ) (z : Pass) → Loading (sheet (t .pass .wide) s) l (d .number + 1) × (z .more ≡ ltb (d .number + 1) (frames (sheet (t .pass .wide) s))) × (z .wide ≡ t .pass .wide) → Is S.the-row z (S′.lowered z ∷ []) → State s m
+    onward l z c is = record {
+      reader = r;
+      pass = z;
+      words = l;
+      bytes-is = ap (λ (h : Reader). h .bytes) (e .2) ∙ t .bytes-is;
+      wide-is = ap (λ (h : Reader). h .wide) (e .2) ∙ t .wide-is;
+      kept = c .2 ∙ t .kept;
+      going = subst (λ (k : ℕ). Goes m s l k (z .more)) (ap (λ (k : ℕ). k + 1) (e .0) ∙ sym at-next) (subst (λ (w : Bool). Goes w s l (d .number + 1) (z .more)) (t .kept) (c .0, c .1));
+      pass-is = is;
+    }
+
+    nearer : frames (sheet m s) - r .at < frames (sheet m s) - t .reader .at
+    nearer = omega (arith, at-next, in-sheet)
 
 -- ---- the walk. κ and q are the sheet's lifetime and share, ρ and p those of the net n
 module _ {M : Type 1} (𝓤 : URA M) (H : Heap 𝓤) (A : Atoms 𝓤) (W : Given 𝓤 H A) (at-mem : Memory → SProp 𝓤) (run : Routine → Fun 𝓤)
     (κ ρ : Lft) (q p : Share) (s n : RefT (List ℕ)) (z₀ : Pass)
-    (starts : Goes (now s) (now n) 0 (z₀ .more)) (z₀-is : Is S.the-row z₀ (S′.lowered z₀ ∷ [])) where
+    (starts : Goes (z₀ .wide) s (now n) 0 (z₀ .more)) (z₀-is : Is S.the-row z₀ (S′.lowered z₀ ∷ [])) where
   abbrev x : RefT (List ℕ) × (RefT (List ℕ) × (Pass × Unit {0}))
   x = (s, (n, (z₀, tt)))
 
   abbrev at : List Val × (List Val × (List Val × Unit {0}))
   at = (value s ∷ [], (value n ∷ [], (S′.lowered z₀ ∷ [], tt)))
 
-  abbrev Sheet : Fml
-  Sheet = ShrSlice (named 0) κ u8 .own s (value s ∷ [])
+  abbrev Bytes : Fml
+  Bytes = ShrSlice (named 0) κ u8 .own s (value s ∷ [])
 
   -- what the net owns at the words l
   abbrev Net : List ℕ → Fml
@@ -169,23 +183,23 @@ module _ {M : Type 1} (𝓤 : URA M) (H : Heap 𝓤) (A : Atoms 𝓤) (W : Given
   abbrev Post : Val → SProp 𝓤
   Post = walkOf 𝓤 H A f.ended stayed (f.clauses 𝓤 H A at-mem run) .post (((κ, (ρ, tt)), (q, (p, tt)), tt, x, at), tt)
 
-  exits : (z : Pass) (l : List ℕ) → Loading (now s) l (frames (now s)) → Is S.the-row z (S′.lowered z ∷ [])
-      → ent 𝓤 (⋆ 𝓤 H A (‵ (flft κ q) ∷ ‵ (flft ρ p) ∷ ‵ Sheet ∷ ‵ (Net l) ∷ [])) (Post (S′.lowered z))
+  exits : (z : Pass) (l : List ℕ) → Loading (sheet (z₀ .wide) s) l (frames (sheet (z₀ .wide) s)) → Is S.the-row z (S′.lowered z ∷ [])
+      → ent 𝓤 (⋆ 𝓤 H A (‵ (flft κ q) ∷ ‵ (flft ρ p) ∷ ‵ Bytes ∷ ‵ (Net l) ∷ [])) (Post (S′.lowered z))
   exits z l e is =
-      qed W (‵ (flft κ q) ∷ ‵ (flft ρ p) ∷ ‵ Sheet ∷ ‵ (Net l) ∷ []) ∵
+      qed W (‵ (flft κ q) ∷ ‵ (flft ρ p) ∷ ‵ Bytes ∷ ‵ (Net l) ∷ []) ∵
       move ! (3 ∷ []) $ use1 W (‵ (Table u64 n ρ (n .name) l)) (valued 𝓤 H A W u64 n ρ (n .name) l (same-long e (starts .0))) $ move ! (1 ∷ 2 ∷ 3 ∷ 0 ∷ []) $
       suffices ! _ (ends-at 𝓤 H A f.ended stayed (f.clauses 𝓤 H A at-mem run) W (((κ, (ρ, tt)), (q, (p, tt)), tt, x, at), tt) (S′.lowered z) z (tt, (l, (tt, tt))) (tt, (same-long e (starts .0), (tt, tt)))) $
       says ! e $ nothing ! $ move ! (2 ∷ 0 ∷ []) $ join ! $ move ! (1 ∷ 0 ∷ []) $ join ! $ frame ! $
       nothing ! $ owned ! S.the-row (Is S.the-row) ((LL.makes S.the-type S′.the-plain) 𝓤 H A) z₀ _ z₀-is $ fjoin ! $ move ! (2 ∷ 0 ∷ []) $ fjoin ! $ move ! (1 ∷ 0 ∷ []) $ fjoin ! $ frame ! $
       owned ! S.the-row (Is S.the-row) ((LL.makes S.the-type S′.the-plain) 𝓤 H A) z _ is $ done !
 
-  -- the call of `store`, of the frame d, at the words l, lent again for β under the name δ
-  module _ (β : ℕ) (δ : GName) (l : List ℕ) (d : Frame) where
-    abbrev y : RefT (List ℕ) × (RefT (List ℕ) × (Frame × Unit {0}))
-    y = (s, (lent u64 n δ l, (d, tt)))
+  -- the call of `store`, of the pass z and the frame d, at the words l, lent again for β under the name δ
+  module _ (β : ℕ) (δ : GName) (l : List ℕ) (z : Pass) (d : Frame) where
+    abbrev y : RefT (List ℕ) × (RefT (List ℕ) × (Pass × (Frame × Unit {0})))
+    y = (s, (lent u64 n δ l, (z, (d, tt))))
 
-    abbrev vals : List Val × (List Val × (List Val × Unit {0}))
-    vals = (value s ∷ [], (value n ∷ [], (F′.lowered d ∷ [], tt)))
+    abbrev vals : List Val × (List Val × (List Val × (List Val × Unit {0})))
+    vals = (value s ∷ [], (value n ∷ [], (S′.lowered z ∷ [], (F′.lowered d ∷ [], tt))))
 
     abbrev to : Store 𝓤 H A at-mem run .Ghost
     to = (((κ, (β ∷ [], tt)), (q, (fullShare, tt)), tt, y, vals), tt)
@@ -194,26 +208,26 @@ module _ {M : Type 1} (𝓤 : URA M) (H : Heap 𝓤) (A : Atoms 𝓤) (W : Given
     Toks = ‵ (flft κ q) ⊛ ‵ (flft (β ∷ []) fullShare) ⊛ ‵ ftrue
 
     abbrev Owns : Fml
-    Owns = owns (ShrSlice (named 0) κ u8 ∷ MutSlice (named 1) (β ∷ []) u64 ∷ F.the-row ∷ []) y vals
+    Owns = owns (ShrSlice (named 0) κ u8 ∷ MutSlice (named 1) (β ∷ []) u64 ∷ S.the-row ∷ F.the-row ∷ []) y vals
 
-    goes : Loading (now s) l (d .number) × (d .number < frames (now s)) × (d .kind ≡ kind (now s) (d .number)) → ent 𝓤 (⋆ 𝓤 H A (Toks ∷ ‵ Owns ∷ [])) (Store 𝓤 H A at-mem run .pre to)
+    goes : Loading (sheet (z .wide) s) l (d .number) × (d .number < frames (sheet (z .wide) s)) × (d .kind ≡ kind (sheet (z .wide) s) (d .number)) → ent 𝓤 (⋆ 𝓤 H A (Toks ∷ ‵ Owns ∷ [])) (Store 𝓤 H A at-mem run .pre to)
     goes ok = qed W (Toks ∷ ‵ Owns ∷ []) ∵ says ! ok $ frame ! $ done !
 
   -- what `store` says of its result and of the net's last words
   abbrev Ends : Type 0
-  Ends = Unit {0} × (List ℕ × (Unit {0} × Unit {0}))
+  Ends = Unit {0} × (List ℕ × (Unit {0} × (Unit {0} × Unit {0})))
 
-  abbrev Stored : Frame → Pass → Ends → Type 0
-  Stored d z ls = Goes (now s) (ls .1 .0) (d .number + 1) (z .more)
+  abbrev Stored : Pass → Frame → Pass → Ends → Type 0
+  Stored w d z ls = Loading (sheet (w .wide) s) (ls .1 .0) (d .number + 1) × (z .more ≡ ltb (d .number + 1) (frames (sheet (w .wide) s))) × (z .wide ≡ w .wide)
 
   module _ (m₀ m₁ m₂ m₃ m₄ m₅ m₆ m₇ m₈ m₉ m₁₀ : ℕ) where
     abbrev En : Env 𝓤 H
     En = (ty 0, m₀) ∷ (ty 1, m₁) ∷ (ty 2, m₂) ∷ (ty 3, m₃) ∷ (ty 4, m₄) ∷ (ty 5, m₅) ∷ (ty 6, m₆) ∷ (ty 7, m₇) ∷ (ty 8, m₈) ∷ (ty 9, m₉) ∷ (ty 10, m₁₀) ∷ []
 
     -- [the reader; what it owns; κ's token; the pass; the net; ρ's token; the sheet; _1; _2; room for _0 and for _5 to _10; and that each local dies]
-    abbrev At : State s → List (Item 𝓤)
+    abbrev At : State s (z₀ .wide) → List (Item 𝓤)
     At t =
-        Cell 𝓤 H A W κ m₄ (t .reader) ∷ Own 𝓤 H A W κ (t .reader) ∷ ‵ (flft κ q) ∷ ‵ (fat fullShare S′.mir m₃ 0 (S′.lowered (t .pass))) ∷ ‵ (Net (t .words)) ∷ ‵ (flft ρ p) ∷ ‵ Sheet
+        Cell 𝓤 H A W κ m₄ (t .reader) ∷ Own 𝓤 H A W κ (t .reader) ∷ ‵ (flft κ q) ∷ ‵ (fat fullShare S′.mir m₃ 0 (S′.lowered (t .pass))) ∷ ‵ (Net (t .words)) ∷ ‵ (flft ρ p) ∷ ‵ Bytes
         ∷ ‵ (fat fullShare (ty 1) m₁ 0 (value s)) ∷ ‵ (fat fullShare (ty 2) m₂ 0 (value n))
         ∷ ‵ (froom (ty 0) m₀ 0) ∷ ‵ (froom (ty 5) m₅ 0) ∷ ‵ (froom (ty 6) m₆ 0) ∷ ‵ (froom (ty 7) m₇ 0) ∷ ‵ (froom (ty 8) m₈ 0) ∷ ‵ (froom (ty 9) m₉ 0) ∷ ‵ (froom (ty 10) m₁₀ 0)
         ∷ ‵ (fdies (ty 0) m₀) ∷ ‵ (fdies (ty 1) m₁) ∷ ‵ (fdies (ty 2) m₂) ∷ ‵ (fdies (ty 3) m₃) ∷ ‵ (fdies (ty 4) m₄)
@@ -232,12 +246,12 @@ module _ {M : Type 1} (𝓤 : URA M) (H : Heap 𝓤) (A : Atoms 𝓤) (W : Given
         -- [_10; …; down to _0; …; the tokens; what the parameters own]
         move ! (23 ∷ []) $ fsplit ! $ move ! (1 ∷ []) $ fsplit ! $ use1 W (‵ (Net (now n))) (bare 𝓤 H A W u64 n ρ (n .name) (now n)) $ move ! (1 ∷ []) $ drop ! $ move ! (24 ∷ []) $ split ! $ move ! (1 ∷ []) $ split ! $ move ! (1 ∷ []) $ drop ! $ move ! (1 ∷ 3 ∷ []) $
         -- [κ's token; the sheet; ρ's token; the net; _10; …; down to _0; …]
-        calls-new 𝓤 H A W κ at-mem run q s 0 (lit< tt) (fmOf 𝓤 H (W .laws) 𝓣) known-new (λ P. and-then ! (load ! (from ! (stop !)) (look ! 22 refl)) (and-then ! (lit ! tt) (no-more !))) (λ typed.
+        calls-new 𝓤 H A W κ at-mem run q s 0 (lit< tt) (z₀ .wide) (fmOf 𝓤 H (W .laws) 𝓣) known-new (λ P. and-then ! (load ! (from ! (stop !)) (look ! 22 refl)) (and-then ! (lit ! tt) (and-then ! (load ! (from ! (fld ! refl (stop !))) (look-in ! 18 (sub ! 0 refl (whole !)))) (no-more !)))) (λ typed.
         land ! (from ! (stop !)) (init ! 13 refl typed) $ assigns ! (of-opd ! (load ! (from ! (stop !)) (look ! 13 refl))) (from ! (stop !)) (init ! 17 refl typed) $ forget ! 13 refl $
         -- [what the reader owns; κ's token; the sheet; ρ's token; the net; _10; …; down to _0; …]
         keep ! (17 ∷ 0 ∷ 1 ∷ 19 ∷ 4 ∷ 3 ∷ 2 ∷ 23 ∷ 21 ∷ 25 ∷ 15 ∷ 13 ∷ 11 ∷ 9 ∷ 7 ∷ 5 ∷ 26 ∷ 24 ∷ 22 ∷ 20 ∷ 18 ∷ 16 ∷ 14 ∷ 12 ∷ 10 ∷ 8 ∷ 6 ∷ []) $
-        first ! $ blocks ! $ loops ! 𝓣 (Nearer s) (Nearer-wf s) (At m₀ m₁ m₂ m₃ m₄ m₅ m₆ m₇ m₈ m₉ m₁₀) (λ t.
-        assigns ! (of-opd ! (load ! (from ! (fld ! refl (stop !))) (look-in ! 3 (sub ! 0 refl (whole !))))) (from ! (stop !)) (init ! 12 refl (tt, tt)) $
+        first ! $ blocks ! $ loops ! 𝓣 (Nearer s (z₀ .wide)) (Nearer-wf s (z₀ .wide)) (At m₀ m₁ m₂ m₃ m₄ m₅ m₆ m₇ m₈ m₉ m₁₀) (λ t.
+        assigns ! (of-opd ! (load ! (from ! (fld ! refl (stop !))) (look-in ! 3 (sub ! 1 refl (whole !))))) (from ! (stop !)) (init ! 12 refl (tt, tt)) $
         by-bool (t .pass .more)
         (λ on. rewrite ! 12 (λ (c : Bool). ‵ (fat fullShare tyBool m₇ 0 (vbool c))) on refl $ stays ! (load ! (from ! (stop !)) (look ! 12 refl)) $
         assigns ! (addr ! (from ! (stop !))) (from ! (stop !)) (init ! 13 refl (tt, tt)) $
@@ -251,15 +265,15 @@ module _ {M : Type 1} (𝓤 : URA M) (H : Heap 𝓤) (A : Atoms 𝓤) (W : Given
         use1 W (‵ (Table u64 n (β ∷ []) δ (t .words))) (valued 𝓤 H A W u64 n (β ∷ []) δ (t .words) (same-long (t .going .0) (starts .0))) $
         -- [the net; the way back; β's token; the reader; what it owns; κ's token; the frame; the pass; the sheet; _1; …]
         nothing ! $ move ! (3 ∷ 0 ∷ []) $ join ! $ move ! (5 ∷ 0 ∷ []) $ join ! $
-        nothing ! $ move ! (6 ∷ 0 ∷ []) $ fjoin ! $ move ! (2 ∷ 0 ∷ []) $ fjoin ! $
-        move ! (6 ∷ []) $ use1 W (‵ Sheet ⊛ ‵ Sheet) (shr-slice-copy 𝓤 H A W (named 0) κ u8 .twice s (value s ∷ [])) $ split ! $ move ! (0 ∷ 2 ∷ []) $ fjoin ! $ move ! (2 ∷ 0 ∷ []) $
-        use2 W (raw (Store 𝓤 H A at-mem run .pre (to β δ (t .words) d))) (goes β δ (t .words) d (asked s t on d r e)) $
+        nothing ! $ move ! (6 ∷ 0 ∷ []) $ fjoin ! $ owned ! S.the-row (Is S.the-row) ((LL.makes S.the-type S′.the-plain) 𝓤 H A) (t .pass) _ (t .pass-is) $ fjoin ! $ move ! (2 ∷ 0 ∷ []) $ fjoin ! $
+        move ! (6 ∷ []) $ use1 W (‵ Bytes ⊛ ‵ Bytes) (shr-slice-copy 𝓤 H A W (named 0) κ u8 .twice s (value s ∷ [])) $ split ! $ move ! (0 ∷ 2 ∷ []) $ fjoin ! $ move ! (2 ∷ 0 ∷ []) $
+        use2 W (raw (Store 𝓤 H A at-mem run .pre (to β δ (t .words) (t .pass) d))) (goes β δ (t .words) (t .pass) d (asked s (z₀ .wide) t on d r e)) $
         -- [what is asked; the sheet; the way back; the reader; what it owns; the pass; _1; …]
-        calls-at-last ! (fmOf 𝓤 H (W .laws) 𝓣) (Store 𝓤 H A at-mem run) known-store (to β δ (t .words) d)
-        (and-then ! (load ! (from ! (stop !)) (look ! 6 refl)) (and-then ! (load ! (from ! (stop !)) (look ! 14 refl)) (and-then ! (load ! (from ! (stop !)) (look ! 9 refl)) (no-more !)))) (λ w.
-        use1 W (later (some (λ (z : Pass). (Toks β δ (t .words) d ⊛ ‵ (S.the-row .own z (w ∷ []))) ⊛ raw (ensured 𝓤 H A callee.ended (callee.clauses 𝓤 H A at-mem run) (κ, (β ∷ [], tt)) (y β δ (t .words) d) tt z)))) (id⊢ 𝓤 _) $ await ! tt $ pick ! (λ z.
-        split ! $ move ! (1 ∷ []) $ use1 W (some (λ (ls : Ends). ‵ (lasts callee.ended (κ, (β ∷ [], tt)) (y β δ (t .words) d) ls) ⊛ raw (fact 𝓤 (Stored d z ls)))) (id⊢ 𝓤 _) $ pick ! (λ ls.
-        split ! $ move ! (1 ∷ []) $ heard ! (Stored d z ls) (λ e′. fsplit ! $ move ! (1 ∷ []) $ fsplit ! $ move ! (3 ∷ []) $ split ! $ split ! $ move ! (1 ∷ []) $ split ! $
+        calls-at-last ! (fmOf 𝓤 H (W .laws) 𝓣) (Store 𝓤 H A at-mem run) known-store (to β δ (t .words) (t .pass) d)
+        (and-then ! (load ! (from ! (stop !)) (look ! 6 refl)) (and-then ! (load ! (from ! (stop !)) (look ! 14 refl)) (and-then ! (load ! (from ! (stop !)) (look ! 5 refl)) (and-then ! (load ! (from ! (stop !)) (look ! 9 refl)) (no-more !))))) (λ w.
+        use1 W (later (some (λ (z : Pass). (Toks β δ (t .words) (t .pass) d ⊛ ‵ (S.the-row .own z (w ∷ []))) ⊛ raw (ensured 𝓤 H A callee.ended (callee.clauses 𝓤 H A at-mem run) (κ, (β ∷ [], tt)) (y β δ (t .words) (t .pass) d) tt z)))) (id⊢ 𝓤 _) $ await ! tt $ pick ! (λ z.
+        split ! $ move ! (1 ∷ []) $ use1 W (some (λ (ls : Ends). ‵ (lasts callee.ended (κ, (β ∷ [], tt)) (y β δ (t .words) (t .pass) d) ls) ⊛ raw (fact 𝓤 (Stored (t .pass) d z ls)))) (id⊢ 𝓤 _) $ pick ! (λ ls.
+        split ! $ move ! (1 ∷ []) $ heard ! (Stored (t .pass) d z ls) (λ e′. fsplit ! $ move ! (1 ∷ []) $ fsplit ! $ move ! (3 ∷ []) $ split ! $ split ! $ move ! (1 ∷ []) $ split ! $
         -- [β's token; true; κ's; what the result owns; the net's last words, and how many; the other last values; true; the sheet; the way back; the reader; what it owns; the pass; _1; …]
         lft-end ! tt $ move ! (4 ∷ []) $ fsplit ! $ move ! (1 ∷ []) $ drop ! $ move ! (1 ∷ 8 ∷ 0 ∷ []) $
         use3 W (later (given (length (ls .1 .0) ≡ length (t .words)) (‵ (Net (ls .1 .0)) ⊛ ‵ (flft ρ p)))) (sl-relent-backˡ 𝓤 H A W u64 ρ p (β ∷ []) (n .ptr .0) (n .ptr .1) (n .name) δ (t .words) (ls .1 .0)) $ await ! tt $ learn ! (λ same. split ! $
@@ -268,22 +282,22 @@ module _ {M : Type 1} (𝓤 : URA M) (H : Heap 𝓤) (A : Atoms 𝓤) (W : Given
         land-last ! (from ! (stop !)) (store ! 9 refl (LL.lawful S.the-type S′.the-laws 𝓤 H A W .typed z _ is .0)) $ rewrite ! 9 (λ (i : Val). ‵ (fat fullShare S′.mir m₃ 0 i)) (ap only (S′.lowers .val-is z (w ∷ []) is)) refl $
         forget ! 13 refl $ forget ! 15 refl $ forget ! 16 refl $ forget ! 17 refl $ forget ! 18 refl $
         keep ! (7 ∷ 8 ∷ 3 ∷ 9 ∷ 0 ∷ 1 ∷ 6 ∷ 10 ∷ 11 ∷ 12 ∷ 13 ∷ 14 ∷ 15 ∷ 16 ∷ 17 ∷ 18 ∷ 19 ∷ 20 ∷ 21 ∷ 22 ∷ 23 ∷ 24 ∷ 25 ∷ 26 ∷ 27 ∷ 28 ∷ 29 ∷ []) $
-        again ! (Nearer s) (At m₀ m₁ m₂ m₃ m₄ m₅ m₆ m₇ m₈ m₉ m₁₀) t (onward s t on d r e (ls .1 .0) z e′ (subst (Is S.the-row z) (S′.lowers .val-is z (w ∷ []) is) is)) (nearer s t on d r e)))))))))))
+        again ! (Nearer s (z₀ .wide)) (At m₀ m₁ m₂ m₃ m₄ m₅ m₆ m₇ m₈ m₉ m₁₀) t (onward s (z₀ .wide) t on d r e (ls .1 .0) z e′ (subst (Is S.the-row z) (S′.lowers .val-is z (w ∷ []) is) is)) (nearer s (z₀ .wide) t on d r e)))))))))))
         -- the loop is left
         (λ off. rewrite ! 12 (λ (c : Bool). ‵ (fat fullShare tyBool m₇ 0 (vbool c))) off refl $ leaves-loop ! (load ! (from ! (stop !)) (look ! 12 refl)) $
         exec ! (𝓣 .C) (𝓣 .Λ) (En m₀ m₁ m₂ m₃ m₄ m₅ m₆ m₇ m₈ m₉ m₁₀) rest (atRet (En m₀ m₁ m₂ m₃ m₄ m₅ m₆ m₇ m₈ m₉ m₁₀) Post) $
         assigns ! (of-opd ! (load ! (from ! (stop !)) (look ! 3 refl))) (from ! (stop !)) (init ! 9 refl (LL.lawful S.the-type S′.the-laws 𝓤 H A W .typed (t .pass) _ (t .pass-is) .0)) $
         returns ! (look ! 9 refl) $ forget ! 0 refl $ forget ! 3 refl $ forget ! 7 refl $ forget ! 8 refl $ forget ! 9 refl $ forget ! 12 refl $
         move ! (9 ∷ 16 ∷ []) $ free1 ! $ move ! (7 ∷ 15 ∷ []) $ free1 ! $ move ! (7 ∷ 14 ∷ []) $ free1 ! $ move ! (3 ∷ 13 ∷ []) $ free1 ! $ move ! (0 ∷ 12 ∷ []) $ free1 ! $ move ! (5 ∷ 11 ∷ []) $ free1 ! $ move ! (5 ∷ 10 ∷ []) $ free1 ! $ move ! (5 ∷ 9 ∷ []) $ free1 ! $ move ! (5 ∷ 8 ∷ []) $ free1 ! $ move ! (5 ∷ 7 ∷ []) $ free1 ! $ move ! (5 ∷ 6 ∷ []) $ free1 ! $ free0 ! $
-        keep ! (1 ∷ 3 ∷ 4 ∷ 2 ∷ []) $ by ! (exits (t .pass) (t .words) (all-stored (t .going) off) (t .pass-is))))
-        (record { reader = start s 0; pass = z₀; words = now n; bytes-is = refl; going = starts; pass-is = z₀-is })))))))))))))
+        keep ! (1 ∷ 3 ∷ 4 ∷ 2 ∷ []) $ by ! (exits (t .pass) (t .words) (all-stored (z₀ .wide) s (t .going) off) (t .pass-is))))
+        (record { reader = start s 0 (z₀ .wide); pass = z₀; words = now n; bytes-is = refl; wide-is = refl; kept = refl; going = starts; pass-is = z₀-is })))))))))))))
 
 module _ {M : Type 1} (𝓤 : URA M) (H : Heap 𝓤) (A : Atoms 𝓤) (W : Given 𝓤 H A) (mem : Memory → SProp 𝓤) (run : Routine → Fun 𝓤) (𝓣 : Tables 𝓤 H)
     (known-new : Triple 𝓤 (𝓣 .C #sheet·reader·new) (New 𝓤 H A mem run)) (known-next : Triple 𝓤 (𝓣 .C #sheet·reader·next) (Next 𝓤 H A mem run)) (known-store : Triple 𝓤 (𝓣 .C #net·decode·store) (Store 𝓤 H A mem run)) where
   load-frames-walks : Walks 𝓤 H A f.ended stayed (WpFn 𝓤 H (𝓣 .C) (𝓣 .Λ) code.function) (f.clauses 𝓤 H A mem run)
   load-frames-walks = walked 𝓤 H A f.ended stayed (f.clauses 𝓤 H A mem run) (WpFn 𝓤 H (𝓣 .C) (𝓣 .Λ) code.function)
       (λ κs. (slice-vals, (slice-vals, ((λ (z : Pass). S′.lowered z ∷ []), tt)))) (λ κs. (shr-slice-tells (named 0) (κs .0) u8, (mut-slice-tells (named 1) (κs .1 .0) u64, (S′.lowers .val-is, tt))))
-      (λ κs qs bounds a g are. needs 𝓤 (Goes (a .0 .now) (a .1 .0 .now) 0 (a .1 .1 .0 .more)) _ (λ starts.
+      (λ κs qs bounds a g are. needs 𝓤 (Goes (a .1 .1 .0 .wide) (a .0) (a .1 .0 .now) 0 (a .1 .1 .0 .more)) _ (λ starts.
       walk 𝓤 H A W mem run (κs .0) (κs .1 .0) (qs .0) (qs .1 .0) (a .0) (a .1 .0) (a .1 .1 .0) starts (are .1 .1 .0) 𝓣 known-new known-next known-store (are .0) (are .1 .0)))
 
   load-frames-meets : Meets 𝓤 H A f.signature (WpFn 𝓤 H (𝓣 .C) (𝓣 .Λ) code.function) (f.spec 𝓤 H A mem run)

@@ -25,14 +25,14 @@ enum-told-5 c = search needs
 enum-known-kind : tie.Need-enum-known-kind
 enum-known-kind c = search needs
 
-range-mask-requires : tie.Need-range-mask-requires
-range-mask-requires c κs = omega (arith, subst (Fit 32 4096) (c .before .kind .given .1) (c .before .before .before .pre) .1)
+range-word-requires : tie.Need-range-word-requires
+range-word-requires c κs = omega (arith, subst (Fit 64 4096) (c .before .kind .given .1) (c .before .before .before .pre) .1)
 
 enum-known-kind-2 : tie.Need-enum-known-kind-2
 enum-known-kind-2 c = search needs
 
-range-mask-requires-2 : tie.Need-range-mask-requires-2
-range-mask-requires-2 c κs = omega (arith, subst (Fit 32 4096) (c .before .kind2 .given .1) (c .before .before .before .pre) .1)
+range-word-requires-2 : tie.Need-range-word-requires-2
+range-word-requires-2 c κs = omega (arith, subst (Fit 64 4096) (c .before .kind2 .given .1) (c .before .before .before .pre) .1)
 
 returns : tie.Need-returns
 unfolding boundOf
@@ -56,11 +56,11 @@ returns-5 c = simp (c .enum-told5 .given .1)
 
 returns-6 : tie.Need-returns-6
 unfolding boundOf
-returns-6 c = simp (c .range-mask .ensures, c .before .before .kind .given .1)
+returns-6 c = simp (c .range-word .ensures, c .before .before .kind .given .1)
 
 returns-7 : tie.Need-returns-7
 unfolding boundOf
-returns-7 c = simp (c .range-mask2 .ensures, c .before .before .kind2 .given .1)
+returns-7 c = simp (c .range-word2 .ensures, c .before .before .kind2 .given .1)
 
 pub mask-of-spec : {M : Type 1} → statement M
 mask-of-spec =
@@ -72,9 +72,9 @@ mask-of-spec =
     enum-told-4
     enum-told-5
     enum-known-kind
-    range-mask-requires
+    range-word-requires
     enum-known-kind-2
-    range-mask-requires-2
+    range-word-requires-2
     returns
     returns-2
     returns-3

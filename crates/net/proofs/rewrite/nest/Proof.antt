@@ -1,15 +1,15 @@
 -- `net::rewrite::nest` meets its contract. The invariant: whatever sheet the net was of, it is of still. Assumes nothing.
-use Prim.Native.Nat.{ℕ, _-_}
+use Prim.Native.Nat.{_-_}
 use native.Mathlib.Omega.{arith}
 use mathlib.Core.Path.{_≡_, refl, _∙_}
-use mathlib.Core.List.{List}
 use lib.ListN.{length}
+use Rattle.sheet.specs.Fields.{Sheet}
 use Rattle.net.specs.Sheet.{NetOf}
 use Rattle.net.proofs.rewrite.nest.Statement.{statement}
 use Rattle.net.proofs.rewrite.nest.Tie as tie
 
 abbrev Inv-loop : tie.InvT-loop
-Inv-loop net₀ n k₀ net k = ((s : List ℕ) → NetOf s net₀ → NetOf s net) × (length net ≡ length net₀)
+Inv-loop net₀ n k₀ net k = ((s : Sheet) → NetOf s net₀ → NetOf s net) × (length net ≡ length net₀)
 
 abbrev μ-loop : tie.MeasureT-loop
 μ-loop net₀ n k₀ net k = n - k

@@ -1,6 +1,7 @@
 -- `qdimacs::build::contingent` meets its contract: clauses with opposites are always true, and the solver's answer tells the rest. Assumes nothing.
 use borrow.Author.Needs.{needs}
 use mathlib.Core.Path.{refl, sym, _∙_}
+use Rattle.sheet.specs.Fields.{narrow}
 use Rattle.qdimacs.specs.MatrixAsked.{judged-true, matrix-checked, ready-none, judged-asked}
 use Rattle.qdimacs.proofs.build.contingent.Statement.{statement}
 use Rattle.qdimacs.proofs.build.contingent.Tie as tie
@@ -35,14 +36,14 @@ slice-aggregate-ask-3 c = search needs
 ask-requires : tie.Need-ask-requires
 ask-requires c κs =
     let k = matrix-checked (c .before .before .before .before .before .before .before .before .before .before .before .before .pre) (c .before .before .before .before .before .before .before .find-occurring .ensures .0) in
-    (c .before .before .before .before .before .before .before .before .before .before .before .before .args .frames .now, ready-none _ _ k (c .before .before .before .before .load .ensures))
+    (narrow (c .before .before .before .before .before .before .before .before .before .before .before .before .args .frames .now), ready-none _ _ k (c .before .before .before .before .load .ensures))
 
 returns-2 : tie.Need-returns-2
 returns-2 c =
     let m = c .before .before .before .before .before .before .before .before .before .before .before .before .before .before .before .before .pre in
     let k = matrix-checked m (c .before .before .before .before .before .before .before .before .before .before .before .find-occurring .ensures .0) in
     let r = ready-none _ _ k (c .before .before .before .before .before .before .before .before .load .ensures) in
-    judged-asked m (sym (c .before .before .before .before .before .before .before .before .before .before .before .before .before .all-opposed .ensures) ∙ c .before .before .before .before .before .before .before .before .before .before .before .before .if1 .left) (c .before .before .before .ask .ensures .1 (c .before .before .before .before .before .before .before .before .before .before .before .before .before .before .before .before .args .frames .now) r .0)
+    judged-asked m (sym (c .before .before .before .before .before .before .before .before .before .before .before .before .before .all-opposed .ensures) ∙ c .before .before .before .before .before .before .before .before .before .before .before .before .if1 .left) (c .before .before .before .ask .ensures .1 (narrow (c .before .before .before .before .before .before .before .before .before .before .before .before .before .before .before .before .args .frames .now)) r .0)
 
 pub contingent-spec : {M : Type 1} → statement M
 contingent-spec =

@@ -10,6 +10,9 @@ enum-told c = search needs
 enum-known-kind : tie.Need-enum-known-kind
 enum-known-kind c = search needs
 
+bad-input-requires : tie.Need-bad-input-requires
+bad-input-requires c κs = search needs
+
 enum-told-2 : tie.Need-enum-told-2
 enum-told-2 c = search needs
 
@@ -37,7 +40,7 @@ returns c = simp (c .enum-told .given .1)
 
 returns-2 : tie.Need-returns-2
 unfolding badVariables
-returns-2 c = simp (c .before .kind .given .1)
+returns-2 c = simp (c .before .before .kind .given .1, c .bad-input .ensures)
 
 returns-3 : tie.Need-returns-3
 unfolding badVariables
@@ -65,6 +68,7 @@ bad-variables-spec =
     (tie.spec
     enum-told
     enum-known-kind
+    bad-input-requires
     enum-told-2
     enum-told-3
     enum-told-4

@@ -1,8 +1,10 @@
--- `sheet::rules::bound_word` meets its contract, arm by arm; a range that is not bad is one of the 32 variables.
-use mathlib.Core.Path.{sym, ap, _∙_}
+-- `sheet::rules::bound_word` meets its contract, arm by arm.
+use native.Mathlib.Omega.{arith}
+use mathlib.Core.Path.{ap, sym, _∙_}
 use Rattle.sheet.specs.Rules.{badVariables}
-use Rattle.sheet.specs.RuleLaws.{range-fits}
 use Rattle.sheet.specs.Check.{boundMask}
+use Rattle.form.specs.Form.{few-variables}
+use Rattle.sheet.specs.RuleLaws.{range-fits}
 use borrow.Author.Needs.{needs}
 use Rattle.sheet.proofs.rules.bound_word.Statement.{statement}
 use Rattle.sheet.proofs.rules.bound_word.Tie as tie
@@ -25,16 +27,18 @@ enum-told-5 c = search needs
 enum-known-kind : tie.Need-enum-known-kind
 enum-known-kind c = search needs
 
-range-mask-requires : tie.Need-range-mask-requires
+range-word-requires : tie.Need-range-word-requires
 unfolding badVariables boundMask
-range-mask-requires c κs = range-fits _ _ (ap badVariables (sym (c .before .kind .given .1)) ∙ c .before .before .before .pre) .2
+range-word-requires c κs = let a = c .before .before .before .args in
+    omega (arith, few-variables (a .form), range-fits (a .form) _ _ (ap (badVariables (a .form)) (sym (c .before .kind .given .1)) ∙ c .before .before .before .pre) .2)
 
 enum-known-kind-2 : tie.Need-enum-known-kind-2
 enum-known-kind-2 c = search needs
 
-range-mask-requires-2 : tie.Need-range-mask-requires-2
+range-word-requires-2 : tie.Need-range-word-requires-2
 unfolding badVariables boundMask
-range-mask-requires-2 c κs = range-fits _ _ (ap badVariables (sym (c .before .kind2 .given .1)) ∙ c .before .before .before .pre) .2
+range-word-requires-2 c κs = let a = c .before .before .before .args in
+    omega (arith, few-variables (a .form), range-fits (a .form) _ _ (ap (badVariables (a .form)) (sym (c .before .kind2 .given .1)) ∙ c .before .before .before .pre) .2)
 
 returns : tie.Need-returns
 unfolding badVariables boundMask
@@ -58,11 +62,11 @@ returns-5 c = simp (c .enum-told5 .given .1)
 
 returns-6 : tie.Need-returns-6
 unfolding badVariables boundMask
-returns-6 c = simp (c .before .before .kind .given .1, c .range-mask .ensures)
+returns-6 c = simp (c .before .before .kind .given .1, c .range-word .ensures)
 
 returns-7 : tie.Need-returns-7
 unfolding badVariables boundMask
-returns-7 c = simp (c .before .before .kind2 .given .1, c .range-mask2 .ensures)
+returns-7 c = simp (c .before .before .kind2 .given .1, c .range-word2 .ensures)
 
 pub bound-word-spec : {M : Type 1} → statement M
 bound-word-spec =
@@ -74,9 +78,9 @@ bound-word-spec =
     enum-told-4
     enum-told-5
     enum-known-kind
-    range-mask-requires
+    range-word-requires
     enum-known-kind-2
-    range-mask-requires-2
+    range-word-requires-2
     returns
     returns-2
     returns-3

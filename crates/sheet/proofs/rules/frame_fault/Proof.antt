@@ -2,15 +2,18 @@
 use mathlib.Core.Path.{sym, _∙_}
 use borrow.Author.Tests.{lt-ltb, le-ltb}
 use Rattle.sheet.specs.Cause.{first}
-use Rattle.sheet.specs.Rules.{byteCauses}
+use Rattle.sheet.specs.Rules.{fieldCauses}
 use Rattle.sheet.specs.Check.{first-variables}
 use borrow.Author.Needs.{needs}
 use Rattle.sheet.proofs.rules.frame_fault.Statement.{statement}
 use Rattle.sheet.proofs.rules.frame_fault.Tie as tie
 
 returns : tie.Need-returns
-unfolding first byteCauses
+unfolding first fieldCauses
 returns c = simp (lt-ltb _ _ (c .if1 .taken))
+
+kind-of-requires : tie.Need-kind-of-requires
+kind-of-requires c κs = search needs
 
 used-requires : tie.Need-used-requires
 used-requires c κs = search needs
@@ -22,45 +25,26 @@ some-late-requires : tie.Need-some-late-requires
 some-late-requires c κs = search needs
 
 returns-2 : tie.Need-returns-2
-unfolding first byteCauses
-returns-2 c =
-    simp (
-      le-ltb _ _ (c .before .before .before .before .if1 .left),
-      sym (c .before .before .before .before .before .pre),
-      sym (c .before .before .before .used .ensures),
-      sym (c .before .before .spare-set .ensures) ∙ c .if2 .taken,
-    )
+unfolding first fieldCauses
+returns-2 c = simp (le-ltb _ _ (c .before .before .before .before .before .if1 .left), sym (c .before .before .before .before .kind-of .ensures), sym (c .before .before .before .used .ensures), sym (c .before .before .spare-set .ensures) ∙ c .if2 .taken)
 
 returns-3 : tie.Need-returns-3
-unfolding first byteCauses
-returns-3 c =
-    simp (
-      le-ltb _ _ (c .before .before .before .before .before .if1 .left),
-      sym (c .before .before .before .before .before .before .pre),
-      sym (c .before .before .before .before .used .ensures),
-      sym (c .before .before .before .spare-set .ensures) ∙ c .before .if2 .left,
-      sym (c .before .before .some-late .ensures) ∙ c .if3 .taken,
-    )
+unfolding first fieldCauses
+returns-3 c = simp (le-ltb _ _ (c .before .before .before .before .before .before .if1 .left), sym (c .before .before .before .before .before .kind-of .ensures), sym (c .before .before .before .before .used .ensures), sym (c .before .before .before .spare-set .ensures) ∙ c .before .if2 .left, sym (c .before .before .some-late .ensures) ∙ c .if3 .taken)
 
 variables-fault-requires : tie.Need-variables-fault-requires
 variables-fault-requires c κs = search needs
 
 returns-4 : tie.Need-returns-4
-unfolding first byteCauses
-returns-4 c =
-    simp (
-      le-ltb _ _ (c .before .before .before .before .before .before .if1 .left),
-      sym (c .before .before .before .before .before .before .before .pre),
-      sym (c .before .before .before .before .before .used .ensures),
-      sym (c .before .before .before .before .spare-set .ensures) ∙ c .before .before .if2 .left,
-      sym (c .before .before .before .some-late .ensures) ∙ c .before .if3 .left,
-    ) (c .variables-fault .ensures ∙ sym (first-variables _ _ _))
+unfolding first fieldCauses
+returns-4 c = simp (le-ltb _ _ (c .before .before .before .before .before .before .before .if1 .left), sym (c .before .before .before .before .before .before .kind-of .ensures), sym (c .before .before .before .before .before .used .ensures), sym (c .before .before .before .before .spare-set .ensures) ∙ c .before .before .if2 .left, sym (c .before .before .before .some-late .ensures) ∙ c .before .if3 .left) (c .variables-fault .ensures ∙ sym (first-variables _ _ _ _))
 
 pub frame-fault-spec : {M : Type 1} → statement M
 frame-fault-spec =
     tie.close
     (tie.spec
     returns
+    kind-of-requires
     used-requires
     spare-set-requires
     some-late-requires

@@ -1,4 +1,4 @@
--- `sheet::rules::spare_set` meets its contract: the first byte that is set decides.
+-- `sheet::rules::spare_set` meets its contract: the first field that is set decides.
 use mathlib.Core.Path.{sym, _∙_}
 use Rattle.sheet.specs.Rules.{spareSet}
 use borrow.Author.Needs.{needs}

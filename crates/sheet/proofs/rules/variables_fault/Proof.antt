@@ -19,21 +19,15 @@ bound-word-requires c κs = sym (c .before .bad-variables .ensures) ∙ c .if1 .
 
 returns-2 : tie.Need-returns-2
 unfolding variablesFault
-returns-2 c =
-    simp (
-      sym (c .before .before .before .bad-variables .ensures) ∙ c .before .before .if1 .left,
-      meet-bound _ _ _ (c .before .before .before .before .fits .bound .fits) (c .before .bound-word .ensures),
-      ne-eqb _ _ (c .if2 .taken),
-    )
+returns-2 c = let a = c .before .before .before .before .args in
+    let g = sym (c .before .before .before .bad-variables .ensures) ∙ c .before .before .if1 .left in
+    simp (g, meet-bound (a .form) (a .kind) (a .bound) _ g (c .before .bound-word .ensures), ne-eqb _ _ (c .if2 .taken))
 
 returns-3 : tie.Need-returns-3
 unfolding variablesFault
-returns-3 c =
-    simp (
-      sym (c .before .before .before .bad-variables .ensures) ∙ c .before .before .if1 .left,
-      meet-bound _ _ _ (c .before .before .before .before .fits .bound .fits) (c .before .bound-word .ensures),
-      eq-eqb _ _ (c .if2 .left),
-    )
+returns-3 c = let a = c .before .before .before .before .args in
+    let g = sym (c .before .before .before .bad-variables .ensures) ∙ c .before .before .if1 .left in
+    simp (g, meet-bound (a .form) (a .kind) (a .bound) _ g (c .before .bound-word .ensures), eq-eqb _ _ (c .if2 .left))
 
 pub variables-fault-spec : {M : Type 1} → statement M
 variables-fault-spec =

@@ -1,62 +1,27 @@
--- `sheet::scan::check_frames` meets its contract: the pass starts at frame 0, and where it ends is the answer.
-use Prim.Native.Nat.{ℕ}
-use native.Mathlib.Omega.{arith}
-use denote.Ref.{now}
-use lib.ListN.{length-replicate}
-use Rattle.sheet.specs.Accepted.{none-sized}
-use Rattle.sheet.specs.Check.{same-checks}
-use Rattle.sheet.specs.Pass.{scan-starts, root-checks}
+-- `sheet::scan::check_frames` meets its contract: each form with words of its own.
 use borrow.Author.Needs.{needs}
 use Rattle.sheet.proofs.scan.check_frames.Statement.{statement}
 use Rattle.sheet.proofs.scan.check_frames.Tie as tie
 
-scan-frames-requires : tie.Need-scan-frames-requires
-scan-frames-requires c κs =
-    let z = none-sized (now (c .before .before .args .sheet)) (c .before .before .pre) in
-    scan-starts _ _ (z .most) (z .least) (length-replicate {A = ℕ} 200 0)
+enum-told : tie.Need-enum-told
+enum-told c = search needs
 
-refused-requires : tie.Need-refused-requires
-refused-requires c κs = search needs
+scan-narrow-requires : tie.Need-scan-narrow-requires
+scan-narrow-requires c κs = rw (c .enum-told .given .1) at (c .before .before .before .pre)
+
+enum-told-2 : tie.Need-enum-told-2
+enum-told-2 c = search needs
+
+scan-wide-requires : tie.Need-scan-wide-requires
+scan-wide-requires c κs = rw (c .enum-told2 .given .1) at (c .before .before .before .pre)
 
 returns : tie.Need-returns
-returns c = same-checks _ _ _ _ _ _ _ _ (c .refused .ensures) (c .before .before .before .scan-frames .ensures .refused (c .before .if1 .taken))
-
-sub-last : tie.Need-sub-last
-sub-last c =
-    let a = c .before .before .before .before .before in
-    omega (arith, none-sized (now (a .args .sheet)) (a .pre) .least)
-
-mul-root-answer : tie.Need-mul-root-answer
-mul-root-answer c = search needs
-
-array-read-root-answer : tie.Need-array-read-root-answer
-array-read-root-answer c =
-    let a = c .before .before .before .before .before in
-    let P = c .before .before .scan-frames .ensures .passed (c .if1 .left) in
-    omega (arith, P .most, P .room, none-sized (now (a .args .sheet)) (a .pre) .least)
-
-cast-root-answer : tie.Need-cast-root-answer
-cast-root-answer c = omega (arith, c .before .before .scan-frames .ensures .passed (c .if1 .left) .most)
-
-root-answer-requires : tie.Need-root-answer-requires
-root-answer-requires c κs = search needs
+returns c = rw (c .before .enum-told .given .1) (c .scan-narrow .ensures)
 
 returns-2 : tie.Need-returns-2
-returns-2 c =
-    let a = c .before .before .before .before .before .before in
-    root-checks _ _ _ (c .before .before .before .scan-frames .ensures .passed (c .before .if1 .left))
-    (none-sized (now (a .args .sheet)) (a .pre) .least) _ _ _ (c .root-answer .ensures)
+returns-2 c = rw (c .before .enum-told2 .given .1) (c .scan-wide .ensures)
 
 pub check-frames-spec : {M : Type 1} → statement M
 check-frames-spec =
     tie.close
-    (tie.spec
-    scan-frames-requires
-    refused-requires
-    returns
-    sub-last
-    mul-root-answer
-    array-read-root-answer
-    cast-root-answer
-    root-answer-requires
-    returns-2)
+    (tie.spec enum-told scan-narrow-requires enum-told-2 scan-wide-requires returns returns-2)

@@ -1,4 +1,6 @@
 -- `sheet::scan::free_word` meets its contract, arm by arm.
+use denote.Ref.{now}
+use lib.ListN.{length}
 use mathlib.Core.Path.{subst}
 use Rattle.sheet.specs.Frames.{Fit}
 use Rattle.sheet.specs.Check.{freeWord}
@@ -12,41 +14,41 @@ enum-told c = search needs
 enum-known-kind : tie.Need-enum-known-kind
 enum-known-kind c = search needs
 
-one-requires : tie.Need-one-requires
-one-requires c κs = subst (Fit 32 200) (c .before .kind .given .1) (c .before .before .before .pre)
+input-word-requires : tie.Need-input-word-requires
+input-word-requires c κs = subst (Fit 64 (length (now (c .before .before .before .before .args .free)))) (c .before .kind .given .1) (c .before .before .before .before .pre)
 
 enum-known-kind-2 : tie.Need-enum-known-kind-2
 enum-known-kind-2 c = search needs
 
 word-at-requires : tie.Need-word-at-requires
-word-at-requires c κs = subst (Fit 32 200) (c .before .kind2 .given .1) (c .before .before .before .pre)
+word-at-requires c κs = subst (Fit 64 (length (now (c .before .before .before .before .args .free)))) (c .before .kind2 .given .1) (c .before .before .before .before .pre)
 
 enum-known-kind-3 : tie.Need-enum-known-kind-3
 enum-known-kind-3 c = search needs
 
 word-at-requires-2 : tie.Need-word-at-requires-2
-word-at-requires-2 c κs = subst (Fit 32 200) (c .before .kind3 .given .1) (c .before .before .before .pre) .0
+word-at-requires-2 c κs = subst (Fit 64 (length (now (c .before .before .before .before .args .free)))) (c .before .kind3 .given .1) (c .before .before .before .before .pre) .0
 
 word-at-requires-3 : tie.Need-word-at-requires-3
-word-at-requires-3 c κs = subst (Fit 32 200) (c .before .before .kind3 .given .1) (c .before .before .before .before .pre) .1
+word-at-requires-3 c κs = subst (Fit 64 (length (now (c .before .before .before .before .before .args .free)))) (c .before .before .kind3 .given .1) (c .before .before .before .before .before .pre) .1
 
 enum-known-kind-4 : tie.Need-enum-known-kind-4
 enum-known-kind-4 c = search needs
 
 word-at-requires-4 : tie.Need-word-at-requires-4
-word-at-requires-4 c κs = subst (Fit 32 200) (c .before .kind4 .given .1) (c .before .before .before .pre) .0
+word-at-requires-4 c κs = subst (Fit 64 (length (now (c .before .before .before .before .args .free)))) (c .before .kind4 .given .1) (c .before .before .before .before .pre) .0
 
 word-at-requires-5 : tie.Need-word-at-requires-5
-word-at-requires-5 c κs = subst (Fit 32 200) (c .before .before .kind4 .given .1) (c .before .before .before .before .pre) .1
+word-at-requires-5 c κs = subst (Fit 64 (length (now (c .before .before .before .before .before .args .free)))) (c .before .before .kind4 .given .1) (c .before .before .before .before .before .pre) .1
 
 enum-known-kind-5 : tie.Need-enum-known-kind-5
 enum-known-kind-5 c = search needs
 
 word-at-requires-6 : tie.Need-word-at-requires-6
-word-at-requires-6 c κs = subst (Fit 32 200) (c .before .kind5 .given .1) (c .before .before .before .pre) .0
+word-at-requires-6 c κs = subst (Fit 64 (length (now (c .before .before .before .before .args .free)))) (c .before .kind5 .given .1) (c .before .before .before .before .pre) .0
 
-range-mask-requires : tie.Need-range-mask-requires
-range-mask-requires c κs = subst (Fit 32 200) (c .before .before .kind5 .given .1) (c .before .before .before .before .pre) .1
+range-word-requires : tie.Need-range-word-requires
+range-word-requires c κs = subst (Fit 64 (length (now (c .before .before .before .before .before .args .free)))) (c .before .before .kind5 .given .1) (c .before .before .before .before .before .pre) .1
 
 without-requires : tie.Need-without-requires
 without-requires c κs = search needs
@@ -55,10 +57,10 @@ enum-known-kind-6 : tie.Need-enum-known-kind-6
 enum-known-kind-6 c = search needs
 
 word-at-requires-7 : tie.Need-word-at-requires-7
-word-at-requires-7 c κs = subst (Fit 32 200) (c .before .kind6 .given .1) (c .before .before .before .pre) .0
+word-at-requires-7 c κs = subst (Fit 64 (length (now (c .before .before .before .before .args .free)))) (c .before .kind6 .given .1) (c .before .before .before .before .pre) .0
 
-range-mask-requires-2 : tie.Need-range-mask-requires-2
-range-mask-requires-2 c κs = subst (Fit 32 200) (c .before .before .kind6 .given .1) (c .before .before .before .before .pre) .1
+range-word-requires-2 : tie.Need-range-word-requires-2
+range-word-requires-2 c κs = subst (Fit 64 (length (now (c .before .before .before .before .before .args .free)))) (c .before .before .kind6 .given .1) (c .before .before .before .before .before .pre) .1
 
 without-requires-2 : tie.Need-without-requires-2
 without-requires-2 c κs = search needs
@@ -69,7 +71,7 @@ returns c = simp (c .enum-told .given .1)
 
 returns-2 : tie.Need-returns-2
 unfolding freeWord
-returns-2 c = simp (c .before .before .kind .given .1, c .one .ensures)
+returns-2 c = simp (c .before .before .kind .given .1, c .input-word .ensures)
 
 returns-3 : tie.Need-returns-3
 unfolding freeWord
@@ -85,11 +87,11 @@ returns-5 c = simp (c .before .before .before .kind4 .given .1, c .before .word-
 
 returns-6 : tie.Need-returns-6
 unfolding freeWord
-returns-6 c = simp (c .before .before .before .before .kind5 .given .1, c .without .ensures, c .before .range-mask .ensures, c .before .before .word-at6 .ensures)
+returns-6 c = simp (c .before .before .before .before .kind5 .given .1, c .before .before .word-at6 .ensures, c .before .range-word .ensures, c .without .ensures)
 
 returns-7 : tie.Need-returns-7
 unfolding freeWord
-returns-7 c = simp (c .before .before .before .before .kind6 .given .1, c .without2 .ensures, c .before .range-mask2 .ensures, c .before .before .word-at7 .ensures)
+returns-7 c = simp (c .before .before .before .before .kind6 .given .1, c .before .before .word-at7 .ensures, c .before .range-word2 .ensures, c .without2 .ensures)
 
 pub free-word-spec : {M : Type 1} → statement M
 free-word-spec =
@@ -97,7 +99,7 @@ free-word-spec =
     (tie.spec
     enum-told
     enum-known-kind
-    one-requires
+    input-word-requires
     enum-known-kind-2
     word-at-requires
     enum-known-kind-3
@@ -108,11 +110,11 @@ free-word-spec =
     word-at-requires-5
     enum-known-kind-5
     word-at-requires-6
-    range-mask-requires
+    range-word-requires
     without-requires
     enum-known-kind-6
     word-at-requires-7
-    range-mask-requires-2
+    range-word-requires-2
     without-requires-2
     returns
     returns-2

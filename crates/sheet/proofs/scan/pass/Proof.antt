@@ -13,18 +13,21 @@ free-word-requires c κs = search needs
 mul-words : tie.Need-mul-words
 mul-words c = search needs
 
-element-write-words : tie.Need-element-write-words
-element-write-words c = search needs
+slice-write-words : tie.Need-slice-write-words
+slice-write-words c = search needs
 
 bound-word-requires : tie.Need-bound-word-requires
 bound-word-requires c κs = search needs
 
+same-length : tie.Need-same-length
+same-length c = search needs
+
 returns : tie.Need-returns
 returns c =
-    let a = c .before .before .before .args in
+    let a = c .before .before .before .before .args in
     (ap (set (now (a .words)) (a .frame .number)) (c .before .free-word .ensures), ap (bitOr (a .bound)) (c .bound-word .ensures))
 
 pub pass-spec : {M : Type 1} → statement M
 pass-spec =
     tie.close
-    (tie.spec free-word-requires mul-words element-write-words bound-word-requires returns)
+    (tie.spec free-word-requires mul-words slice-write-words bound-word-requires same-length returns)

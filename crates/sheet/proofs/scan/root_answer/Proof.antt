@@ -1,6 +1,8 @@
 -- `sheet::scan::root_answer` meets its contract: the words have a place in common exactly if the sets do.
 use mathlib.Core.Path.{_∙_}
 use borrow.Author.Tests.{eq-eqb, ne-eqb}
+use native.Mathlib.Nat.{lt-of-le-of-lt}
+use lib.Bits.{and-le-r}
 use Rattle.sheet.specs.Check.{meet-bits}
 use borrow.Author.Needs.{needs}
 use Rattle.sheet.proofs.scan.root_answer.Statement.{statement}
@@ -10,17 +12,15 @@ refused-requires : tie.Need-refused-requires
 refused-requires c κs = search needs
 
 returns : tie.Need-returns
-returns c =
-    let a = c .before .before .args in
-    let m = meet-bits (a .bound) (a .word) (c .before .before .fits .word .fits) in
+returns c = let a = c .before .before .args in
+    let m = meet-bits (a .form) (a .bound) (a .word) (lt-of-le-of-lt (and-le-r (a .bound) (a .word)) (c .before .before .pre)) in
     let t = ne-eqb _ _ (c .before .if1 .taken) in
     let r = c .refused .ensures in
     record { number-is = r .0 ∙ simp (m, t); place-is = r .1 ∙ simp (m, t); free-is = r .2 ∙ simp (m, t) }
 
 returns-2 : tie.Need-returns-2
-returns-2 c =
-    let a = c .before .args in
-    let m = meet-bits (a .bound) (a .word) (c .before .fits .word .fits) in
+returns-2 c = let a = c .before .args in
+    let m = meet-bits (a .form) (a .bound) (a .word) (lt-of-le-of-lt (and-le-r (a .bound) (a .word)) (c .before .pre)) in
     let t = eq-eqb _ _ (c .if1 .left) in
     record { number-is = simp (m, t); place-is = simp (m, t); free-is = simp (m, t) }
 

@@ -1,38 +1,87 @@
 -- `sheet::scan::visit` meets its contract: the frame is refused, or it is passed.
-use mathlib.Core.Path.{sym, _∙_}
+use Prim.Native.Nat.{ℕ}
+use mathlib.Core.Path.{_≡_, refl, sym, _∙_, ap}
 use native.Mathlib.Omega.{arith}
-use Rattle.sheet.specs.Pass.{fault-clean, kind-fit, kind-range, pass-read, scan-refuses, scan-passes}
+use mathlib.Core.List.{List}
+use denote.Ref.{now}
+use lib.ListN.{length}
+use Rattle.words.specs.Word.{bit}
+use Rattle.form.specs.Form.{formOf, most-place}
+use Rattle.form.specs.declared.Form.{Form}
+use Rattle.sheet.specs.Cause.{first}
+use Rattle.sheet.specs.Fields.{sheetOf, frames-of}
+use Rattle.sheet.specs.Rules.{badVariables, causesOf}
+use Rattle.sheet.specs.Pass.{fault-clean, kind-room, kind-range, pass-read, scan-refuses, scan-passes}
 use borrow.Author.Needs.{needs}
 use Rattle.sheet.proofs.scan.visit.Statement.{statement}
 use Rattle.sheet.proofs.scan.visit.Tie as tie
 
-fault-of-requires : tie.Need-fault-of-requires
-fault-of-requires c κs = let q = c .before .pre in (q .1, omega (arith, q .0 .most), q .2)
+-- a cause by the form that the code has worked out is one by the sheet's
+told : {F G : Form} (b : List ℕ) (k w : ℕ) {n : ℕ} → F ≡ G → n ≡ first (causesOf (sheetOf F b) k (bit w)) .number → n ≡ first (causesOf (sheetOf G b) k (bit w)) .number
+told b k w f e = e ∙ ap (λ (F : Form). first (causesOf (sheetOf F b) k (bit w)) .number) f
 
-cast-t9 : tie.Need-cast-t9
-cast-t9 c = search needs
+of-requires : tie.Need-of-requires
+of-requires c κs = search needs
+
+fault-at-requires : tie.Need-fault-at-requires
+fault-at-requires c κs =
+    let q = c .before .before .before .pre in
+    omega (arith, q .0 .most, q .1, most-place (formOf (c .before .before .before .args .scan .wide)))
+
+cast-t10 : tie.Need-cast-t10
+cast-t10 c =
+    let q = c .before .before .before .before .before .before .pre in
+    omega (arith, q .0 .most, q .1, most-place (formOf (c .before .before .before .before .before .before .args .scan .wide)))
 
 returns : tie.Need-returns
 returns c =
-    let q = c .before .before .before .before .pre in
-    scan-refuses _ _ _ _ (q .0) (q .1) _ (c .before .before .fault-of .ensures) (c .before .if1 .taken)
+    let a = c .before .before .before .before .before .before .args in
+    let q = c .before .before .before .before .before .before .pre in
+    let e = told (now (a .sheet)) (a .frame .number) (a .scan .bound) (c .before .before .before .of .ensures) (c .before .before .fault-at .ensures) in
+    (scan-refuses _ _ _ _ (q .0) (q .1) _ e (c .before .if1 .taken), refl)
 
 pass-requires : tie.Need-pass-requires
 pass-requires c κs =
-    let q = c .before .before .before .before .pre in
-    let g = fault-clean _ _ _ _ (q .0) (q .1) (sym (c .before .before .fault-of .ensures) ∙ c .before .if1 .left) in
-    (omega (arith, q .0 .most), kind-fit _ _ _ _ (q .0) (q .1) g _ (q .2), kind-range _ _ _ _ (q .0) (q .1) g _ (q .2))
+    let a = c .before .before .before .before .before .before .args in
+    let q = c .before .before .before .before .before .before .pre in
+    let f = c .before .before .before .of .ensures in
+    let e = told (now (a .sheet)) (a .frame .number) (a .scan .bound) f (c .before .before .fault-at .ensures) in
+    let g = fault-clean _ _ _ _ (q .0) (q .1) (sym e ∙ c .before .if1 .left) in (
+      omega (arith, q .0 .most, q .0 .room, q .1),
+      kind-room _ _ _ _ (q .0) (q .1) g _ (q .2),
+      ap (λ (F : Form). badVariables F (a .frame .kind)) f ∙ kind-range _ _ _ _ (q .0) (q .1) g _ (q .2),
+    )
 
 add-next : tie.Need-add-next
 add-next c = search needs
 
+frames-requires : tie.Need-frames-requires
+frames-requires c κs = search needs
+
+same-length : tie.Need-same-length
+same-length c = search needs
+
 returns-2 : tie.Need-returns-2
 returns-2 c =
-    let q = c .before .before .before .before .before .before .pre in
-    let g = fault-clean _ _ _ _ (q .0) (q .1) (sym (c .before .before .before .before .fault-of .ensures) ∙ c .before .before .before .if1 .left) in
-    let e = c .before .pass .ensures in
-    scan-passes _ _ _ _ (pass-read _ _ _ _ (q .0) (q .1) g _ (q .2) _ _ (e .0) (e .1))
+    let a = c .before .before .before .before .before .before .before .before .before .before .before .args in
+    let q = c .before .before .before .before .before .before .before .before .before .before .before .pre in
+    let f = c .before .before .before .before .before .before .before .before .of .ensures in
+    let e = told (now (a .sheet)) (a .frame .number) (a .scan .bound) f (c .before .before .before .before .before .before .before .fault-at .ensures) in
+    let g = fault-clean _ _ _ _ (q .0) (q .1) (sym e ∙ c .before .before .before .before .before .before .if1 .left) in
+    let p = c .before .before .before .before .pass .ensures in
+    let n = frames-of (length (now (a .sheet))) f (c .frames .ensures) in
+    (scan-passes _ _ _ _ (pass-read _ _ _ _ (q .0) (q .1) g _ (q .2) _ _ (p .0) (p .1)) _ n, refl)
 
 pub visit-spec : {M : Type 1} → statement M
 visit-spec =
-    tie.close (tie.spec fault-of-requires cast-t9 returns pass-requires add-next returns-2)
+    tie.close
+    (tie.spec
+    of-requires
+    fault-at-requires
+    cast-t10
+    returns
+    pass-requires
+    add-next
+    frames-requires
+    same-length
+    returns-2)

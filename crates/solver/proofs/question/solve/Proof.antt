@@ -1,56 +1,37 @@
--- `solver::question::solve` meets its contract: the search of the quantifier that the question put behind the frames. Assumes nothing.
+-- `solver::question::solve` meets its contract: each form has its own scratch. Assumes nothing.
 use native.Mathlib.Omega.{arith}
+use mathlib.Core.Path.{sym, _∙_}
 use borrow.Author.Needs.{needs}
-use mathlib.Core.Path.{ap, refl, _∙_}
-use lib.ListN.{length}
-use Rattle.net.specs.OwnLaws.{forgotten-back}
-use Rattle.solver.specs.QuestionLaws.{asked-ground, asked-blank, asked-checked, asked-lent, asked-binds, asked-body, asked-solved, asked-grown}
+use Rattle.form.specs.declared.Form.the-variants.{Narrow, Wide}
+use Rattle.solver.specs.QuestionLaws.{asked-words}
 use Rattle.solver.proofs.question.solve.Statement.{statement}
 use Rattle.solver.proofs.question.solve.Tie as tie
 
-choose-requires : tie.Need-choose-requires
-choose-requires c κs = search needs
+form-requires : tie.Need-form-requires
+form-requires c κs = search needs
 
-frames-requires : tie.Need-frames-requires
-frames-requires c κs = search needs
+enum-told : tie.Need-enum-told
+enum-told c = search needs
 
-node-at-requires : tie.Need-node-at-requires
-node-at-requires c κs = rw (c .before .frames .ensures) (asked-ground (c .before .before .before .before .before .before .before .before .before .before .pre .1) (c .before .before .before .before .before .choose .ensures) .room)
+solve-narrow-requires : tie.Need-solve-narrow-requires
+solve-narrow-requires c κs =
+    let pre° = c .before .before .before .before .before .before .before .before .before .before .pre in
+    let form° = c .before .before .before .before .before .form in
+    let enum-told° = c .before .before .before .enum-told in
+    (pre°, omega (arith, asked-words (pre° .1) Narrow (sym (form° .ensures) ∙ enum-told° .given .1)))
 
-fresh-requires : tie.Need-fresh-requires
-fresh-requires c κs = search needs
+enum-told-2 : tie.Need-enum-told-2
+enum-told-2 c = search needs
 
-slice-aggregate-judge : tie.Need-slice-aggregate-judge
-slice-aggregate-judge c = search needs
-
-judge-requires : tie.Need-judge-requires
-judge-requires c κs =
-    let asked = c .before .before .before .before .before .before .before .before .before .before .before .before .before .before .pre .1 in
-    let chosen = c .before .before .before .before .before .before .before .before .before .choose .ensures in (
-      asked-ground asked chosen,
-      asked-body asked chosen (c .before .before .before .before .before .frames .ensures) (c .before .before .before .node-at .ensures .0),
-      asked-blank asked chosen refl,
-    )
-
-slice-aggregate-choose : tie.Need-slice-aggregate-choose
-slice-aggregate-choose c = search needs
-
-slice-aggregate-choose-2 : tie.Need-slice-aggregate-choose-2
-slice-aggregate-choose-2 c = search needs
-
-choose-requires-2 : tie.Need-choose-requires-2
-choose-requires-2 c κs =
-    let asked = c .before .before .before .before .before .before .before .before .before .before .before .before .before .before .before .before .before .before .before .before .before .pre .1 in
-    let chosen = c .before .before .before .before .before .before .before .before .before .before .before .before .before .before .before .before .choose .ensures in
-    let own = c .before .before .before .before .before .before .before .before .before .before .before .before .frames .ensures in
-    let node = c .before .before .before .before .before .before .before .before .before .before .node-at .ensures .0 in
-    ((node, asked-binds asked chosen own node), (asked-checked asked chosen own (c .before .before .before .before .before .before .judge .ensures .judged), asked-lent asked chosen refl))
-
-forget-requires : tie.Need-forget-requires
-forget-requires c κs = asked-ground (c .before .before .before .before .before .before .before .before .before .before .before .before .before .before .before .before .before .before .before .before .before .before .before .before .before .before .before .before .before .pre .1) (c .before .before .before .before .before .before .before .before .before .before .before .before .before .before .before .before .before .before .before .before .before .before .before .before .choose .ensures)
+solve-wide-requires : tie.Need-solve-wide-requires
+solve-wide-requires c κs =
+    let pre° = c .before .before .before .before .before .before .before .before .before .before .pre in
+    let form° = c .before .before .before .before .before .form in
+    let enum-told2° = c .before .before .before .enum-told2 in
+    (pre°, omega (arith, asked-words (pre° .1) Wide (sym (form° .ensures) ∙ enum-told2° .given .1)))
 
 same-length : tie.Need-same-length
-same-length c = ap length (forgotten-back (c .before .before .before .before .before .before .before .before .before .before .before .before .before .before .before .before .before .before .before .before .before .before .before .before .before .before .before .before .before .before .before .before .pre .1 .net-of) (c .before .before .before .before .before .before .before .before .before .before .before .before .before .before .before .before .before .before .before .before .before .before .before .before .before .before .before .choose .ensures) (c .before .before .forget .ensures))
+same-length c = search needs
 
 same-length-2 : tie.Need-same-length-2
 same-length-2 c = search needs
@@ -59,29 +40,34 @@ same-length-3 : tie.Need-same-length-3
 same-length-3 c = search needs
 
 returns : tie.Need-returns
-returns c =
-    let asked = c .before .before .before .before .before .before .before .before .before .before .before .before .before .before .before .before .before .before .before .before .before .before .before .before .before .before .before .before .before .before .before .before .pre .1 in
-    let chosen = c .before .before .before .before .before .before .before .before .before .before .before .before .before .before .before .before .before .before .before .before .before .before .before .before .before .before .before .choose .ensures in
-    let found = c .before .before .before .before .before .before .before .before .before .before .choose2 in (
-      asked-solved asked chosen (c .before .before .before .before .before .before .before .before .before .before .before .before .before .before .before .before .before .before .before .before .before .before .before .frames .ensures) (c .before .before .before .before .before .before .before .before .before .before .before .before .before .before .before .before .before .before .before .before .before .node-at .ensures .0) (found .result .found) (found .result .word) (found .result .reason) (found .ensures .0 .0),
-      (asked-grown asked chosen (found .ensures .1), forgotten-back (asked .net-of) chosen (c .before .before .forget .ensures)),
-    )
+returns c = search needs
+
+same-length-4 : tie.Need-same-length-4
+same-length-4 c = search needs
+
+same-length-5 : tie.Need-same-length-5
+same-length-5 c = search needs
+
+same-length-6 : tie.Need-same-length-6
+same-length-6 c = search needs
+
+returns-2 : tie.Need-returns-2
+returns-2 c = search needs
 
 pub solve-spec : {M : Type 1} → statement M
 solve-spec =
     tie.close
     (tie.spec
-    choose-requires
-    frames-requires
-    node-at-requires
-    fresh-requires
-    slice-aggregate-judge
-    judge-requires
-    slice-aggregate-choose
-    slice-aggregate-choose-2
-    choose-requires-2
-    forget-requires
+    form-requires
+    enum-told
+    solve-narrow-requires
+    enum-told-2
+    solve-wide-requires
     same-length
     same-length-2
     same-length-3
-    returns)
+    returns
+    same-length-4
+    same-length-5
+    same-length-6
+    returns-2)

@@ -13,15 +13,18 @@ Inv-loop net₀ v reason under₀ over₀ left₀ x₀ net under over left x = T
 abbrev μ-loop : tie.MeasureT-loop
 μ-loop net₀ v reason under₀ over₀ left₀ x₀ net under over left x = x
 
+variables-of-requires : tie.Need-variables-of-requires Inv-loop μ-loop
+variables-of-requires c κs = search needs
+
 loop-holds : tie.Need-loop-holds Inv-loop μ-loop
-loop-holds c = turning-start
+loop-holds c = turning-start (c .variables-of .ensures)
 
 sub-x : tie.Need-sub-x Inv-loop μ-loop
 sub-x c = search needs
 
 dropped-requires : tie.Need-dropped-requires Inv-loop μ-loop
 dropped-requires c κs =
-    let pre° = c .before .before .before .before .before .before .before .before .before .before .pre in
+    let pre° = c .before .before .before .before .before .before .before .before .before .before .before .before .pre in
     let loop° = c .before .before .before .before .before .before .loop in
     ((pre° .0 .0, pre° .0 .1, omega (arith, loop° .inv .low)), (pre° .1 .0, rw (loop° .inv .same) (loop° .inv .each (pre° .1 .0) (pre° .1 .1) (pre° .1 .2) .ready)))
 
@@ -43,13 +46,13 @@ same-length c =
 same-length-2 : tie.Need-same-length-2 Inv-loop μ-loop
 same-length-2 c =
     let loop° = c .before .loop in
-    let pre° = c .before .before .before .before .before .pre in
+    let pre° = c .before .before .before .before .before .before .before .pre in
     loop° .inv .each (pre° .1 .0) (pre° .1 .1) (pre° .1 .2) .kept .under .same
 
 same-length-3 : tie.Need-same-length-3 Inv-loop μ-loop
 same-length-3 c =
     let loop° = c .before .loop in
-    let pre° = c .before .before .before .before .before .pre in
+    let pre° = c .before .before .before .before .before .before .before .pre in
     loop° .inv .each (pre° .1 .0) (pre° .1 .1) (pre° .1 .2) .kept .over .same
 
 returns : tie.Need-returns Inv-loop μ-loop
@@ -63,6 +66,7 @@ reduced-spec =
     (tie.spec
     Inv-loop
     μ-loop
+    variables-of-requires
     loop-holds
     sub-x
     dropped-requires

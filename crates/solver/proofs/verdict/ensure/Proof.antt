@@ -1,4 +1,6 @@
 -- `solver::verdict::ensure` meets its contract. Assumes nothing.
+use native.Mathlib.Omega.{arith}
+use lib.Bits.{and-le-r}
 use borrow.Author.Needs.{needs}
 use Rattle.solver.specs.Ask.{ensured-found, ensured-put}
 use Rattle.solver.proofs.verdict.ensure.Statement.{statement}
@@ -23,7 +25,10 @@ enum-told-2 : tie.Need-enum-told-2
 enum-told-2 c = search needs
 
 put-requires : tie.Need-put-requires
-put-requires c κs = search needs
+put-requires c κs =
+    let pre° = c .before .before .before .before .before .before .pre in
+    let args° = c .before .before .before .before .before .before .args in
+    (pre° .0, omega (arith, pre° .1, pre° .2), omega (arith, pre° .2, and-le-r (args° .setting) (args° .reason)))
 
 same-length-2 : tie.Need-same-length-2
 same-length-2 c = search needs

@@ -1,0 +1,20 @@
+-- `proxies::low` meets its contract, in each form. Assumes nothing.
+use native.Mathlib.Omega.{arith}
+use borrow.Author.Needs.{needs}
+use Rattle.proxies.proofs.low.Statement.{statement}
+use Rattle.proxies.proofs.low.Tie as tie
+
+enum-told : tie.Need-enum-told
+enum-told c = search needs
+
+enum-told-2 : tie.Need-enum-told-2
+enum-told-2 c = search needs
+
+returns : tie.Need-returns
+returns c = simp (c .enum-told .given .1)
+
+returns-2 : tie.Need-returns-2
+returns-2 c = rw (c .enum-told2 .given .1) (omega arith)
+
+pub low-spec : {M : Type 1} → statement M
+low-spec = tie.close (tie.spec enum-told enum-told-2 returns returns-2)

@@ -1,0 +1,41 @@
+-- `solver::question::solve_wide` meets its contract: the scratch is empty, and has a place for every node. Assumes nothing.
+use mathlib.Core.Path.{refl}
+use borrow.Author.Needs.{needs}
+use Rattle.solver.specs.QuestionLaws.{blank-scratch}
+use Rattle.solver.proofs.question.solve_wide.Statement.{statement}
+use Rattle.solver.proofs.question.solve_wide.Tie as tie
+
+slice-aggregate-solve-in : tie.Need-slice-aggregate-solve-in
+slice-aggregate-solve-in c = search needs
+
+slice-aggregate-solve-in-2 : tie.Need-slice-aggregate-solve-in-2
+slice-aggregate-solve-in-2 c = search needs
+
+solve-in-requires : tie.Need-solve-in-requires
+solve-in-requires c κs =
+    let pre° = c .before .before .before .before .before .before .before .before .pre in
+    (pre° .0, blank-scratch 6002 (pre° .1) refl refl)
+
+same-length : tie.Need-same-length
+same-length c = search needs
+
+same-length-2 : tie.Need-same-length-2
+same-length-2 c = search needs
+
+same-length-3 : tie.Need-same-length-3
+same-length-3 c = search needs
+
+returns : tie.Need-returns
+returns c = search needs
+
+pub solve-wide-spec : {M : Type 1} → statement M
+solve-wide-spec =
+    tie.close
+    (tie.spec
+    slice-aggregate-solve-in
+    slice-aggregate-solve-in-2
+    solve-in-requires
+    same-length
+    same-length-2
+    same-length-3
+    returns)

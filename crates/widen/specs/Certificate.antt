@@ -1,0 +1,142 @@
+-- What a reader may conclude of a widened sheet. Each theorem stands under its sentence. Assumes nothing.
+use Prim.Native.Nat.{ℕ, zero, suc, _-_, _^_, _≤_, _<_}
+use native.Mathlib.Omega.{arith}
+use mathlib.Core.Path.{_≡_, refl, sym, ap, ap₂, _∙_}
+use mathlib.Core.Bool.{true, false, and-false}
+use mathlib.Core.List.{List, []}
+use lib.ListN.{length}
+use lib.Dec.{ltb}
+use borrow.Author.Tests.{lt-ltb}
+use Rattle.words.specs.Logic.{by-bool}
+use Rattle.formula.specs.Formula.{Formula, free}
+use Rattle.formula.specs.Ask.{Bounded}
+use Rattle.formula.specs.Widths.{ask-width, why-width}
+use Rattle.form.specs.Form.{answerStart}
+use Rattle.form.specs.declared.Form.the-variants.{Narrow, Wide}
+use Rattle.sheet.specs.Fields.{narrow, wide, frames, fieldsAt, kind}
+use Rattle.sheet.specs.Frames.{formula}
+use Rattle.sheet.specs.Rules.{last, used, names, binds}
+use Rattle.sheet.specs.Keeps.{Quantifies, Keeps}
+use Rattle.sheet.specs.declared.Fields.{Fields}
+use Rattle.sheet.specs.declared.Kind.{Kind}
+use Rattle.session.specs.declared.Entry.{Entry}
+use Rattle.session.specs.Model.{Answer, answerBytes, meaning, enteredMask, enteredValues, Reply, lineRefusal, obeyed, line, lines, lineAt, after, answerAt}
+use Rattle.session.specs.Entries.{Entered, mask-lt, none-entered}
+use Rattle.session.specs.Script.{after-keeps}
+use Rattle.run.specs.Run.{book, before}
+use Rattle.run.specs.Before.{kept-accepted}
+use Rattle.run.specs.Call.{Call, Meets}
+use Rattle.run.specs.Accept.{Proper}
+use Rattle.run.specs.Certificate.{lineBytes, accepted-exactly, one-answer}
+use Rattle.widen.specs.Widen.{widened}
+use Rattle.widen.specs.WidenLaws.{widened-length, widened-frames, same-fields, same-kind, same-formula}
+
+-- ---- the reference model does not hang on the number of variables
+
+module _ (n m : ℕ) (f : Formula) (B : Bounded n f) (more : n ≤ m) where
+  wider : Bounded m f
+  wider = record { below = λ k e. omega (arith, B .below k e) }
+
+  same-opens : (x : ℕ) → meaning m f .opens x ≡ meaning n f .opens x
+  unfolding meaning
+  same-opens x = by-bool (free f x)
+      (λ e. rw (e, lt-ltb x m (wider .below x e), lt-ltb x n (B .below x e)))
+      (λ e. rw (e, and-false (ltb x m), and-false (ltb x n)))
+
+  same-refusal : (es : List Entry) (k a b c : ℕ) → lineRefusal (meaning m f) es k a b c ≡ lineRefusal (meaning n f) es k a b c
+  unfolding lineRefusal
+  same-refusal es k a b c = rw (same-opens a)
+
+  same-obeyed : (es : List Entry) (k a b c : ℕ) → enteredMask es < 2 ^ n → obeyed (meaning m f) es k a b c ≡ obeyed (meaning n f) es k a b c
+  unfolding obeyed meaning
+  same-obeyed es k a b c l =
+      rw (ask-width B wider (enteredMask es) (enteredValues es), why-width B wider more (enteredMask es) (enteredValues es) l)
+
+  same-line : (es : List Entry) (k a b c : ℕ) → enteredMask es < 2 ^ n → line (meaning m f) es k a b c ≡ line (meaning n f) es k a b c
+  unfolding line
+  same-line es k a b c l = rw (same-refusal es k a b c, same-obeyed es k a b c l)
+
+  same-at : (script : List ℕ) (es : List Entry) (i : ℕ) → Entered (meaning n f) es → lineAt (meaning m f) script es i ≡ lineAt (meaning n f) script es i
+  unfolding lineAt
+  same-at script es i d = same-line es _ _ _ _ (mask-lt n f d)
+
+  kept : (script : List ℕ) (i : ℕ) → Entered (meaning n f) (after (meaning n f) [] script i)
+  kept script i = after-keeps (meaning n f) [] script (none-entered (meaning n f)) i
+
+  pub same-after : (script : List ℕ) (i : ℕ) → after (meaning m f) [] script i ≡ after (meaning n f) [] script i
+  unfolding after
+  same-after script zero = refl
+  same-after script (suc i) =
+      ap (λ (es : List Entry). lineAt (meaning m f) script es i .entries) (same-after script i)
+      ∙ ap (λ (r : Reply). r .entries) (same-at script (after (meaning n f) [] script i) i (kept script i))
+
+  pub same-answer : (script : List ℕ) (i : ℕ) → answerAt (meaning m f) [] script i ≡ answerAt (meaning n f) [] script i
+  unfolding answerAt
+  same-answer script i =
+      ap (λ (es : List Entry). lineAt (meaning m f) script es i .answer) (same-after script i)
+      ∙ ap (λ (r : Reply). r .answer) (same-at script (after (meaning n f) [] script i) i (kept script i))
+
+-- ---- a widened sheet
+
+module _ (s : List ℕ) where
+  abbrev w : List ℕ
+  w = widened s
+
+  -- It has as many frames, and each the same formula.
+  pub widened-formula : (k : ℕ) → formula (wide w) k ≡ formula (narrow s) k
+  widened-formula k = same-formula s k
+
+  last-same : last (wide w) ≡ last (narrow s)
+  last-same = ap (λ (n : ℕ). n - 1) (widened-frames s)
+
+  -- so the sheets have the same formula
+  root-same : formula (wide w) (last (wide w)) ≡ formula (narrow s) (last (narrow s))
+  root-same = ap (formula (wide w)) last-same ∙ widened-formula (last (narrow s))
+
+  module _ (K : Keeps (narrow s)) where
+    in-narrow : {k : ℕ} → k < frames (wide w) → k < frames (narrow s)
+    in-narrow h = omega (arith, h, widened-frames s)
+
+    -- It keeps the rules of wide sheets if the narrow one keeps those of narrow ones.
+    pub widened-keeps : Keeps (wide w)
+    widened-keeps = record {
+      whole = omega (arith, widened-frames s, widened-length s (frames (narrow s)));
+      least = omega (arith, widened-frames s, K .least);
+      most = omega (arith, widened-frames s, K .most);
+      known = λ k h. rw (same-fields s k) (K .known k (in-narrow h));
+      spare-a = λ k h u. ap (λ (f : Fields). f .a) (same-fields s k) ∙ K .spare-a k (in-narrow h) (omega (arith, u, ap used (same-kind s k)));
+      spare-b = λ k h u. ap (λ (f : Fields). f .b) (same-fields s k) ∙ K .spare-b k (in-narrow h) (omega (arith, u, ap used (same-kind s k)));
+      spare-c = λ k h u. ap (λ (f : Fields). f .c) (same-fields s k) ∙ K .spare-c k (in-narrow h) (omega (arith, u, ap used (same-kind s k)));
+      earlier = λ k a h m. K .earlier k a (in-narrow h) (rw (same-kind s k) at m);
+      variable = λ k x h e. omega (arith, K .variable k x (in-narrow h) (sym (same-kind s k) ∙ e));
+      range = λ k a b c h q. let r = K .range k a b c (in-narrow h) (rw (same-kind s k) at q) in (r .0, omega (arith, r .1), omega (arith, r .2));
+      once = λ j k v i h p q. K .once j k v (in-narrow i) (in-narrow h) (rw (same-kind s j) at p) (rw (same-kind s k) at q);
+      closed = λ k v h p. ap (λ (f : Formula). free f v) root-same ∙ K .closed k v (in-narrow h) (rw (same-kind s k) at p);
+    }
+
+    bounded : Bounded 32 (formula (narrow s) (last (narrow s)))
+    bounded = kept-accepted (narrow s) K .bounded (last (narrow s))
+
+    -- The reference model answers every line with the same number, V and word, and leaves the same entries standing.
+    pub widened-answer : (script : List ℕ) (i : ℕ) → answerAt (book (wide w)) [] script i ≡ answerAt (book (narrow s)) [] script i
+    widened-answer script i =
+        ap (λ (f : Formula). answerAt (meaning 64 f) [] script i) root-same ∙ same-answer 32 64 _ bounded (omega arith) script i
+
+    pub widened-before : (script : List ℕ) (i : ℕ) → before (wide w) script i ≡ before (narrow s) script i
+    widened-before script i = ap (λ (f : Formula). after (meaning 64 f) [] script i) root-same ∙ same-after 32 64 _ bounded (omega arith) script i
+
+    -- So of any call of the run over the one sheet and any over the other that are accepted: line i of both tells one and the same answer.
+    pub widened-runs : (script : List ℕ) (o q : Call) → Meets (narrow s) script o → Meets (wide w) script q → o .number ≡ 0 → q .number ≡ 0
+        → (i : ℕ) → i < lines script → (a : Answer) × (lineBytes Narrow o i ≡ answerBytes Narrow a) × (lineBytes Wide q i ≡ answerBytes Wide a)
+    widened-runs script o q O Q n m i h = (
+      answerAt (book (narrow s)) [] script i,
+      one-answer (narrow s) script o O n i h,
+      one-answer (wide w) script q Q m i h ∙ ap (answerBytes Wide) (widened-answer script i),
+    )
+
+    -- And the second is accepted wherever the first is, with an answer buffer that is long enough.
+    pub widened-accepted : (script : List ℕ) (o q : Call) → Meets (narrow s) script o → Meets (wide w) script q → o .number ≡ 0
+        → answerStart Wide (lines script) ≤ length (q .ans) → q .number ≡ 0
+    widened-accepted script o q O Q n room =
+        let P = accepted-exactly (narrow s) script o O .0 n in
+        accepted-exactly (wide w) script q Q .1 (record { sheet-kept = widened-keeps; whole = P .whole; few = P .few; room = room })

@@ -1,0 +1,3 @@
+pub mod Widen
+pub mod WidenLaws
+pub mod Certificate
