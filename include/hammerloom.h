@@ -1,7 +1,9 @@
 /* Hammerloom: checks a rule sheet of Boolean flags and runs a script of entries and questions over it.
  *
- * One function; link target/staticlib/libhammerloom.a (x86-64). All numbers of more than one byte are written highest
- * byte first. "Bit k" of a word has the weight 2 to the k and belongs to variable k. */
+ * Two functions, for the two forms of sheets: narrow ones of up to 32 variables and 200 frames, and wide ones of up to
+ * 64 variables and 3,000 frames. What belongs to wide sheets alone has WIDE in its name or stands in square brackets;
+ * scripts are the same for both. Link target/staticlib/libhammerloom.a (x86-64). All numbers of more than one byte are
+ * written highest byte first. "Bit k" of a word has the weight 2 to the k and belongs to variable k. */
 #ifndef HAMMERLOOM_H
 #define HAMMERLOOM_H
 
@@ -16,18 +18,25 @@ extern "C" {
 
 #define HAMMERLOOM_VARIABLES 32u           /* variables are 0 to 31 */
 #define HAMMERLOOM_DESKS 8u                /* desks are 0 to 7 */
-#define HAMMERLOOM_FRAME_BYTES 4u          /* a sheet frame or script line: K A B C */
+#define HAMMERLOOM_FRAME_BYTES 4u          /* a sheet frame, and a script line of either form: K A B C */
 #define HAMMERLOOM_ANSWER_BYTES 6u         /* an answer: refusal number or 0, V, a word of four bytes */
 #define HAMMERLOOM_MOST_SHEET_FRAMES 200u  /* a sheet has 1 to 200 frames, up to 800 bytes */
-#define HAMMERLOOM_MOST_SCRIPT_LINES 1000u /* a script has 0 to 1,000 lines, up to 4,000 bytes, 6,000 of answers */
+#define HAMMERLOOM_MOST_SCRIPT_LINES 1000u /* a script has 0 to 1,000 lines, 4,000 bytes, 6,000 [10,000] of answers */
+
+#define HAMMERLOOM_WIDE_VARIABLES 64u           /* variables are 0 to 63 */
+#define HAMMERLOOM_WIDE_FRAME_BYTES 7u          /* a sheet frame: K, and the fields A B C of two bytes each */
+#define HAMMERLOOM_WIDE_ANSWER_BYTES 10u        /* an answer: refusal number or 0, V, a word of eight bytes */
+#define HAMMERLOOM_WIDE_MOST_SHEET_FRAMES 3000u /* a sheet has 1 to 3,000 frames, up to 21,000 bytes */
 
 /* The room that the answers of a script of so many bytes take. */
 #define HAMMERLOOM_ANSWERS_LEN(script_len) ((script_len) / HAMMERLOOM_FRAME_BYTES * HAMMERLOOM_ANSWER_BYTES)
+#define HAMMERLOOM_WIDE_ANSWERS_LEN(script_len) ((script_len) / HAMMERLOOM_FRAME_BYTES * HAMMERLOOM_WIDE_ANSWER_BYTES)
 
-/* ---- Sheet frames, each four bytes of an initializer ----
+/* ---- Sheet frames, each four [seven] bytes of an initializer ----
  * Frames are numbered from 0; the last one is the sheet's formula. A frame names only frames before it, and may name
- * the same one twice. EXISTS and FORALL bind `count` variables (1 to 32) from `first` on, first + count <= 32. A
- * variable is bound by at most one frame of the sheet. No variable that the sheet binds may be open in the last frame. */
+ * the same one twice. EXISTS and FORALL bind `count` variables (1 to 32 [64]) from `first` on, first + count <= 32
+ * [64]. A variable is bound by at most one frame of the sheet. No variable that the sheet binds may be open in the last
+ * frame. */
 
 #define HAMMERLOOM_NEVER 0x00, 0, 0, 0                                  /* false */
 #define HAMMERLOOM_INPUT(variable) 0x01, (variable), 0, 0               /* the variable's value */
@@ -37,7 +46,18 @@ extern "C" {
 #define HAMMERLOOM_EXISTS(frame, first, count) 0x05, (frame), (first), (count)
 #define HAMMERLOOM_FORALL(frame, first, count) 0x06, (frame), (first), (count)
 
-/* ---- Script lines, each four bytes of an initializer ----
+#define HAMMERLOOM_WIDE_FIELD(number) ((number) >> 8 & 0xFF), ((number)&0xFF) /* 0 to 65,535 */
+#define HAMMERLOOM_WIDE_NEVER 0x00, 0, 0, 0, 0, 0, 0
+#define HAMMERLOOM_WIDE_INPUT(variable) 0x01, HAMMERLOOM_WIDE_FIELD(variable), 0, 0, 0, 0
+#define HAMMERLOOM_WIDE_NOT(frame) 0x02, HAMMERLOOM_WIDE_FIELD(frame), 0, 0, 0, 0
+#define HAMMERLOOM_WIDE_AND(left, right) 0x03, HAMMERLOOM_WIDE_FIELD(left), HAMMERLOOM_WIDE_FIELD(right), 0, 0
+#define HAMMERLOOM_WIDE_OR(left, right) 0x04, HAMMERLOOM_WIDE_FIELD(left), HAMMERLOOM_WIDE_FIELD(right), 0, 0
+#define HAMMERLOOM_WIDE_EXISTS(frame, first, count) \
+    0x05, HAMMERLOOM_WIDE_FIELD(frame), HAMMERLOOM_WIDE_FIELD(first), HAMMERLOOM_WIDE_FIELD(count)
+#define HAMMERLOOM_WIDE_FORALL(frame, first, count) \
+    0x06, HAMMERLOOM_WIDE_FIELD(frame), HAMMERLOOM_WIDE_FIELD(first), HAMMERLOOM_WIDE_FIELD(count)
+
+/* ---- Script lines of both forms, each four bytes of an initializer ----
  * An entry keeps the desk that made it, which TAKE BACK and READ tell and no question depends on. */
 
 #define HAMMERLOOM_ENTER_AT(desk, variable, value) 0x10, (variable), (value), (desk) /* V: entries standing; word: 0 */
@@ -47,7 +67,7 @@ extern "C" {
 #define HAMMERLOOM_ASK 0x13, 0, 0, 0               /* V: 1 yes, 0 no; word: on yes the smallest setting, on no 0 */
 #define HAMMERLOOM_WHY 0x14, 0, 0, 0               /* V: the verdict of ASK; word: the mask of the reason */
 
-/* The parts of the word that tells an entry. */
+/* The parts of the word that tells an entry, of either form. */
 #define HAMMERLOOM_ENTRY_DESK(word) ((unsigned)((uint32_t)(word) >> 8))
 #define HAMMERLOOM_ENTRY_VALUE(word) ((unsigned)((uint32_t)(word)&0xFFu))
 
@@ -59,18 +79,18 @@ extern "C" {
 /* ---- Refusals ---- */
 
 /* Of a whole call, in the result. They are looked for in this order, frame by frame from 6 to 10, and the first one
- * found is told. (Number 1 is a text reader's, 18 and 19 are the QDIMACS reader's, and no call is refused
- * by them.) */
+ * found is told. (Numbers 1 and 29 are a text reader's, 18 and 19 are the QDIMACS reader's, 31 is the converter's, and
+ * no call is refused by them.) */
 enum hammerloom_refusal {
     HAMMERLOOM_ACCEPTED = 0,
     HAMMERLOOM_REFUSED_PART_FRAME = 2,    /* sheet empty, or sheet or script not of whole frames; place 0 */
-    HAMMERLOOM_REFUSED_SHEET_LENGTH = 3,  /* more than 200 sheet frames; place 0, told before the script's 2 */
+    HAMMERLOOM_REFUSED_SHEET_LENGTH = 3,  /* more than 200 [3,000] sheet frames; place 0, told before the script's 2 */
     HAMMERLOOM_REFUSED_SCRIPT_LENGTH = 4, /* more than 1,000 script lines; place 0 */
-    HAMMERLOOM_REFUSED_ANSWERS_ROOM = 5,  /* answers_len under 6 times the script lines; place 0 */
+    HAMMERLOOM_REFUSED_ANSWERS_ROOM = 5,  /* answers_len under 6 [10] times the script lines; place 0 */
     HAMMERLOOM_REFUSED_KIND = 6,          /* sheet kind above 06; place: the frame's number, as for those below */
     HAMMERLOOM_REFUSED_SPARE = 7,         /* spare byte not 0 */
     HAMMERLOOM_REFUSED_NAMED_FRAME = 8,   /* named frame not earlier */
-    HAMMERLOOM_REFUSED_RANGE = 9,         /* variable above 31, or a quantifier's range empty or past 31 */
+    HAMMERLOOM_REFUSED_RANGE = 9,         /* variable above 31 [63], or a quantifier's range empty or past 31 [63] */
     HAMMERLOOM_REFUSED_BOUND_TWICE = 10,  /* variable bound by an earlier frame too */
     HAMMERLOOM_REFUSED_BOUND_OPEN = 11    /* bound variable open in the last frame; place: the last frame's number */
 };
@@ -88,9 +108,12 @@ enum hammerloom_line_refusal {
     HAMMERLOOM_LINE_REFUSED_PLACE = 17     /* READ: no entry at that place */
 };
 
-/* The refusal number, one of enum hammerloom_refusal, and the place of a result, a frame's number and so below 200. */
+/* The refusal number, one of enum hammerloom_refusal, and the place of a result, a frame's number and so below 200
+ * [3,000]. */
 #define HAMMERLOOM_REFUSAL(result) ((unsigned)((uint32_t)(result) >> 8))
 #define HAMMERLOOM_PLACE(result) ((unsigned)((uint32_t)(result)&0xFFu))
+#define HAMMERLOOM_WIDE_REFUSAL(result) ((unsigned)((uint32_t)(result) >> 16))
+#define HAMMERLOOM_WIDE_PLACE(result) ((unsigned)((uint32_t)(result)&0xFFFFu))
 
 /* The parts of the answer to a script line; lines are counted from 0. */
 #define HAMMERLOOM_ANSWER(answers, line) ((answers) + (size_t)(line)*HAMMERLOOM_ANSWER_BYTES)
@@ -100,9 +123,19 @@ enum hammerloom_line_refusal {
     ((uint32_t)HAMMERLOOM_ANSWER(answers, line)[2] << 24 | (uint32_t)HAMMERLOOM_ANSWER(answers, line)[3] << 16 | \
      (uint32_t)HAMMERLOOM_ANSWER(answers, line)[4] << 8 | (uint32_t)HAMMERLOOM_ANSWER(answers, line)[5])
 
-/* ---- The call ----
- * Checks the sheet, runs the script over it from no entry, and returns 256 times the refusal number plus the place; 0
- * when accepted.
+#define HAMMERLOOM_WIDE_ANSWER(answers, line) ((answers) + (size_t)(line)*HAMMERLOOM_WIDE_ANSWER_BYTES)
+#define HAMMERLOOM_WIDE_ANSWER_REFUSAL(answers, line) ((unsigned)HAMMERLOOM_WIDE_ANSWER(answers, line)[0])
+#define HAMMERLOOM_WIDE_ANSWER_V(answers, line) ((unsigned)HAMMERLOOM_WIDE_ANSWER(answers, line)[1])
+#define HAMMERLOOM_WIDE_ANSWER_BYTE(answers, line, place) ((uint64_t)HAMMERLOOM_WIDE_ANSWER(answers, line)[place])
+#define HAMMERLOOM_WIDE_ANSWER_WORD(answers, line)                                                               \
+    (HAMMERLOOM_WIDE_ANSWER_BYTE(answers, line, 2) << 56 | HAMMERLOOM_WIDE_ANSWER_BYTE(answers, line, 3) << 48 | \
+     HAMMERLOOM_WIDE_ANSWER_BYTE(answers, line, 4) << 40 | HAMMERLOOM_WIDE_ANSWER_BYTE(answers, line, 5) << 32 | \
+     HAMMERLOOM_WIDE_ANSWER_BYTE(answers, line, 6) << 24 | HAMMERLOOM_WIDE_ANSWER_BYTE(answers, line, 7) << 16 | \
+     HAMMERLOOM_WIDE_ANSWER_BYTE(answers, line, 8) << 8 | HAMMERLOOM_WIDE_ANSWER_BYTE(answers, line, 9))
+
+/* ---- The calls ----
+ * Checks a narrow sheet, runs the script over it from no entry, and returns 256 times the refusal number plus the
+ * place; 0 when accepted.
  *
  * Accepted: the first HAMMERLOOM_ANSWERS_LEN(script_len) bytes of `answers` are the answers, in the script's order, and
  * all bytes behind them are as they were. Refused: all of `answers` is as it was. `sheet` and `script` are only read.
@@ -116,6 +149,11 @@ enum hammerloom_line_refusal {
  * It always returns, but the time of a question may grow exponentially with the number of variables. */
 uint32_t hammerloom_run(const uint8_t *sheet, size_t sheet_len, const uint8_t *script, size_t script_len,
                         uint8_t *answers, size_t answers_len);
+
+/* The same for a wide sheet: it returns 65,536 times the refusal number plus the place, the answers take
+ * HAMMERLOOM_WIDE_ANSWERS_LEN(script_len) bytes, and it needs under TO BE MEASURED of stack. */
+uint32_t hammerloom_run_wide(const uint8_t *sheet, size_t sheet_len, const uint8_t *script, size_t script_len,
+                             uint8_t *answers, size_t answers_len);
 
 #ifdef __cplusplus
 }

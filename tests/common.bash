@@ -7,6 +7,7 @@ root=$(cd "$(dirname "${BASH_SOURCE[0]}")/.." && pwd)
 archive=$(realpath -m -- "${HAMMERLOOM_ARCHIVE:-$root/target/staticlib/libhammerloom.a}")
 program=$(realpath -m -- "${INTERLOCK:-$root/target/bin/interlock}")
 qdimacs=$(realpath -m -- "${QDIMACS:-$root/target/bin/from_qdimacs}")
+widen=$(realpath -m -- "${WIDEN:-$root/target/bin/to_wide}")
 build=$root/target/tests
 suite=$build/$(basename "$0")
 mkdir -p "$build"
@@ -31,6 +32,7 @@ give_up() {
 need_archive() { [ -f "$archive" ] || give_up "no archive at $archive (rt staticlib hammerloom writes it)"; }
 need_program() { [ -x "$program" ] || give_up "no program at $program (rt check writes it)"; }
 need_qdimacs() { [ -x "$qdimacs" ] || give_up "no reader of questions at $qdimacs (rt check writes it)"; }
+need_widen() { [ -x "$widen" ] || give_up "no converter at $widen (rt check writes it)"; }
 need_command() { command -v "$1" >/dev/null || give_up "no $1 on this machine"; }
 
 # check NAME COMMAND...: one check; what the command prints is shown only if it fails.

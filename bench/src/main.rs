@@ -18,7 +18,9 @@ mod generate;
 #[path = "../../tests/random/rng.rs"]
 mod rng;
 
+use evaluator::form::Form;
 use evaluator::sheet::{self, Sheet};
+use evaluator::text::Reading;
 use families::scale::SWEEPS;
 use families::{FAMILIES, SHEETS};
 use generate::question_texts;
@@ -66,7 +68,7 @@ fn usage() -> ExitCode {
 }
 
 fn accepted(bytes: &[u8]) -> io::Result<Sheet> {
-    sheet::check(bytes).map_err(|refusal| io::Error::other(format!("a sheet is refused: {refusal:?}")))
+    sheet::check(Form::Narrow, bytes).map_err(|refusal| io::Error::other(format!("a sheet is refused: {refusal:?}")))
 }
 
 /// FOLDER/NAME.sheet, .smt2 and, unless it would be too large, .qdimacs.
@@ -140,8 +142,10 @@ fn convert(converter: impl Fn(&Sheet) -> Option<String>) -> io::Result<()> {
     if !text.contains("\n\n") {
         text.push('\n');
     }
-    let (bytes, _) = evaluator::text::read(text.as_bytes())
-        .map_err(|refusal| io::Error::other(format!("the text is refused: {refusal:?}")))?;
+    let Reading { form: Form::Narrow, parts } = evaluator::text::read(text.as_bytes()) else {
+        return Err(io::Error::other("the sheet is a wide one"));
+    };
+    let (bytes, _) = parts.map_err(|refusal| io::Error::other(format!("the text is refused: {refusal:?}")))?;
     let converted = converter(&accepted(&bytes)?).ok_or_else(|| io::Error::other("the prenex form is too large"))?;
     print!("{converted}");
     Ok(())

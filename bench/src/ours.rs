@@ -3,6 +3,7 @@
 //! - ask, why: a script of that one line; the word is the answer's.
 //! - asks, entries: a script of 1,000 lines; the verdict is the last ASK's (no where there is none), the word a sum of all answers.
 
+#[allow(dead_code)]
 #[path = "../../include/hammerloom.rs"]
 mod hammerloom;
 

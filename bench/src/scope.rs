@@ -27,7 +27,7 @@ impl Scopes {
             }
         }
         // An inner quantified frame has the smaller number.
-        let innermost = |open: &u32| (0..32).filter(|v| open >> v & 1 == 1).filter_map(|v| binder[v]).min();
+        let innermost = |open: &u64| (0..32).filter(|v| open >> v & 1 == 1).filter_map(|v| binder[v]).min();
         let home = open.iter().map(innermost).collect();
         Scopes { reached, home, binder }
     }

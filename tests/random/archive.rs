@@ -1,9 +1,11 @@
-//! Calls of the archive's one entry, with canary bytes around each lent buffer.
+//! Calls of the archive's two entries, with canary bytes around each lent buffer.
 
 #[path = "../../include/hammerloom.rs"]
 mod hammerloom;
 
-use hammerloom::hammerloom_run;
+use crate::evaluator::form::Form;
+use crate::evaluator::Call;
+use hammerloom::{hammerloom_run, hammerloom_run_wide};
 use std::ptr;
 
 pub struct Outcome {
@@ -14,15 +16,23 @@ pub struct Outcome {
     pub disturbed: Vec<&'static str>,
 }
 
-/// One call. The answer buffer starts with the given content; `salt` varies the canaries and the buffers' alignment.
-pub fn call(sheet: &[u8], script: &[u8], answers: &[u8], salt: u64) -> Outcome {
+type Entry = unsafe extern "C" fn(*const u8, usize, *const u8, usize, *mut u8, usize) -> u32;
+
+/// One call of the form's entry. The answer buffer starts with the given content; `salt` varies the canaries and the
+/// buffers' alignment.
+pub fn call(call: Call, answers: &[u8], salt: u64) -> Outcome {
+    let Call { form, sheet, script } = call;
+    let entry: Entry = match form {
+        Form::Narrow => hammerloom_run,
+        Form::Wide => hammerloom_run_wide,
+    };
     let null_if_empty = salt.is_multiple_of(2);
     let mut lent_sheet = Lent::new(sheet, salt, null_if_empty);
     let mut lent_script = Lent::new(script, salt >> 8, null_if_empty);
     let mut lent_answers = Lent::new(answers, salt >> 16, null_if_empty);
     // SAFETY: each pointer has its buffer's length behind it, or is null with length 0; the three are apart.
     let result = unsafe {
-        hammerloom_run(
+        entry(
             lent_sheet.pointer(),
             sheet.len(),
             lent_script.pointer(),

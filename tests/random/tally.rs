@@ -1,7 +1,10 @@
 //! The count of checks, the first failures in words, and what the runs met.
 
+use crate::evaluator::form::{Form, LINE};
 use crate::evaluator::question::{self, Cause};
-use crate::evaluator::{sheet::Refusal, text};
+use crate::evaluator::sheet::Refusal;
+use crate::evaluator::text::{self, Reading};
+use crate::evaluator::Call;
 
 /// Reports beyond these are counted only.
 const MOST_REPORTS: usize = 5;
@@ -43,23 +46,38 @@ impl Tally {
     }
 }
 
-/// The numbers that a call or a line is refused by; 1 is a text's alone.
+/// The numbers that a call or a line is refused by; a text has two more.
 const REFUSALS: [u8; 17] = [2, 3, 4, 5, 6, 7, 8, 9, 10, 11, 12, 13, 14, 15, 16, 17, 24];
+/// What only a text is refused by.
+const TEXT_REFUSALS: [u8; 2] = [1, 29];
 
-/// How often each refusal, each kind of question with each verdict, and entries of desks other than 0 came up in the
-/// expected answers, random texts of each case and ending, and random questions of each end.
+/// How often what is to come up came up in the expected answers: for each form of sheets, in the converter's texts, and
+/// in questions.
 #[derive(Default)]
 pub struct Met {
+    narrow: MetOfForm,
+    wide: MetOfForm,
+    /// Texts given to the converter, in the order of their ends' list.
+    widened: [u64; WIDENED.len()],
+    /// Texts of questions, in the order of their ends' list.
+    ends: [u64; ENDS.len()],
+}
+
+/// Each refusal, each kind of question with each verdict, entries of desks other than 0, random texts of each case and
+/// ending and with each refusal.
+#[derive(Default)]
+struct MetOfForm {
     /// In the order of the numbers' list.
     refusals: [u64; REFUSALS.len()],
+    text_refusals: [u64; TEXT_REFUSALS.len()],
     /// TAKE BACK and READ of an entry by a desk other than 0.
     desks: [u64; 2],
     /// ASK no and yes, WHY no and yes, each with word 0 and with another.
     questions: [u64; 8],
     /// Texts with no letter, capitals, lower case, both; with no ending, 0A, 0D 0A, both. Each refused and accepted.
     texts: [[u64; 2]; 8],
-    /// Texts of questions, in the order of their ends' list.
-    ends: [u64; ENDS.len()],
+    /// What is above a narrow sheet: the words of ASK and WHY, and the place of a refusal.
+    above: [u64; 3],
 }
 
 /// How the text of a question ends, and its name.
@@ -72,44 +90,50 @@ const ENDS: [(Option<Cause>, &str); 6] = [
     (Some(Cause::AlwaysFalse), "a question refused by 18 as always false"),
 ];
 
+/// How the text given to the converter ends.
+const WIDENED: [&str; 5] = [
+    "a text widened",
+    "a text not widened for a line's shape",
+    "a text not widened for a line of the other form",
+    "a text not widened for its sheet",
+    "a wide text not widened",
+];
+
 impl Met {
-    pub fn note(&mut self, script: &[u8], expected: &Result<Vec<u8>, Refusal>) {
-        let answers = match expected {
-            Err(refusal) => {
-                self.note_refusal(refusal.number);
-                return;
-            }
-            Ok(answers) => answers,
-        };
-        for (line, answer) in script.chunks_exact(4).zip(answers.chunks_exact(6)) {
-            let word = u32::from_be_bytes(answer[2..].try_into().unwrap());
-            match (answer[0], line[0]) {
-                (0, kind @ (0x11 | 0x12)) => self.desks[usize::from(kind - 0x11)] += u64::from(word >= 256),
-                (0, kind @ (0x13 | 0x14)) => {
-                    let which = 4 * usize::from(kind - 0x13) + 2 * usize::from(answer[1]) + usize::from(word != 0);
-                    self.questions[which] += 1;
-                }
-                (0, _) => {}
-                (number, _) => self.note_refusal(number),
+    fn of(&mut self, form: Form) -> &mut MetOfForm {
+        match form {
+            Form::Narrow => &mut self.narrow,
+            Form::Wide => &mut self.wide,
+        }
+    }
+
+    pub fn note(&mut self, call: Call, expected: &Result<Vec<u8>, Refusal>) {
+        let met = self.of(call.form);
+        match expected {
+            Err(refusal) => met.note_refusal(refusal.number, refusal.place),
+            Ok(answers) => {
+                let lines = call.script.chunks_exact(LINE).zip(answers.chunks_exact(call.form.answer()));
+                lines.for_each(|(line, answer)| met.note_answer(line[0], answer));
             }
         }
     }
 
-    fn note_refusal(&mut self, number: u8) {
-        let place = REFUSALS.iter().position(|&listed| listed == number).expect("a listed refusal");
-        self.refusals[place] += 1;
-    }
-
-    /// Notes a text by its letters, and by its endings.
+    /// Notes a text by its letters, by its endings, and by what it is refused by.
     pub fn note_text(&mut self, text: &[u8]) {
-        let accepted = usize::from(text::read(text).is_ok());
-        let letters = [text.iter().any(u8::is_ascii_uppercase), text.iter().any(u8::is_ascii_lowercase)];
-        let lines = text.iter().filter(|&&byte| byte == b'\n').count();
-        let carriage_returns = text.windows(2).filter(|pair| pair == b"\r\n").count();
-        let endings = [carriage_returns < lines, carriage_returns > 0];
-        for (start, [one, other]) in [(0, letters), (4, endings)] {
-            self.texts[start + usize::from(one) + 2 * usize::from(other)][accepted] += 1;
-        }
+        let Reading { form, parts } = text::read(text);
+        self.of(form).note_text(text, parts.err().map(|refusal| refusal.number));
+    }
+
+    /// Notes a text that the converter is given.
+    pub fn note_widened(&mut self, text: &[u8]) {
+        let place = match (text::read(text).form, text::widened_parts(text)) {
+            (Form::Wide, _) => 4,
+            (_, Ok(_)) => 0,
+            (_, Err(Refusal { number: 1, .. })) => 1,
+            (_, Err(Refusal { number: 29, .. })) => 2,
+            _ => 3,
+        };
+        self.widened[place] += 1;
     }
 
     /// Notes the text of a question.
@@ -120,57 +144,105 @@ impl Met {
     }
 
     fn add(&mut self, other: &Met) {
-        for (count, more) in self.refusals.iter_mut().zip(other.refusals) {
-            *count += more;
+        self.narrow.add(&other.narrow);
+        self.wide.add(&other.wide);
+        add(&mut self.widened, &other.widened);
+        add(&mut self.ends, &other.ends);
+    }
+
+    /// What came up fewer than so many times, of all that can.
+    pub fn lacks(&self, least: u64) -> Vec<String> {
+        let mut lacks = Lacks { least, found: Vec::new() };
+        for (form, met) in [("narrow", &self.narrow), ("wide", &self.wide)] {
+            let mut of_form = Lacks { least, found: Vec::new() };
+            met.lacks(&mut of_form);
+            lacks.found.extend(of_form.found.iter().map(|lack| format!("{form}: {lack}")));
         }
-        for (count, more) in self.desks.iter_mut().zip(other.desks) {
-            *count += more;
-        }
-        for (count, more) in self.questions.iter_mut().zip(other.questions) {
-            *count += more;
-        }
-        for (count, more) in self.ends.iter_mut().zip(other.ends) {
-            *count += more;
-        }
-        for (count, more) in self.texts.iter_mut().flatten().zip(other.texts.iter().flatten()) {
-            *count += more;
+        let above = ["ASK with a word above 32 bits", "WHY with a mask above 32 bits", "a place above 255"];
+        lacks.among(&above, &self.wide.above);
+        lacks.among(&WIDENED, &self.widened);
+        lacks.among(&ENDS.map(|(_, name)| name), &self.ends);
+        lacks.found
+    }
+}
+
+impl MetOfForm {
+    fn note_refusal(&mut self, number: u8, place: u16) {
+        let listed = REFUSALS.iter().position(|&listed| listed == number).expect("a listed refusal");
+        self.refusals[listed] += 1;
+        self.above[2] += u64::from(place > 255);
+    }
+
+    /// Notes the answer to a line of this kind.
+    fn note_answer(&mut self, kind: u8, answer: &[u8]) {
+        let word = answer[2..].iter().fold(0, |word, &byte| word << 8 | u64::from(byte));
+        match (answer[0], kind) {
+            (0, 0x11 | 0x12) => self.desks[usize::from(kind - 0x11)] += u64::from(word >= 256),
+            (0, 0x13 | 0x14) => {
+                let which = usize::from(kind - 0x13);
+                self.questions[4 * which + 2 * usize::from(answer[1]) + usize::from(word != 0)] += 1;
+                self.above[which] += u64::from(word > u32::MAX.into());
+            }
+            (0, _) => {}
+            (number, _) => self.note_refusal(number, 0),
         }
     }
 
-    /// What came up fewer than so many times, of all that can: a no has no word. Texts without a letter or an ending
-    /// are not asked for.
-    pub fn lacks(&self, least: u64) -> Vec<String> {
-        let mut lacks = Vec::new();
-        for (number, &count) in REFUSALS.iter().zip(&self.refusals) {
-            if count < least {
-                lacks.push(format!("refusal {number} {count} times"));
-            }
+    fn note_text(&mut self, text: &[u8], refusal: Option<u8>) {
+        let letters = [text.iter().any(u8::is_ascii_uppercase), text.iter().any(u8::is_ascii_lowercase)];
+        let lines = text.iter().filter(|&&byte| byte == b'\n').count();
+        let carriage_returns = text.windows(2).filter(|pair| pair == b"\r\n").count();
+        let endings = [carriage_returns < lines, carriage_returns > 0];
+        for (start, [one, other]) in [(0, letters), (4, endings)] {
+            self.texts[start + usize::from(one) + 2 * usize::from(other)][usize::from(refusal.is_none())] += 1;
         }
-        for (name, &count) in ["TAKE BACK", "READ"].iter().zip(&self.desks) {
-            if count < least {
-                lacks.push(format!("{name} of an entry by a desk other than 0 {count} times"));
-            }
+        if let Some(place) = TEXT_REFUSALS.iter().position(|&listed| Some(listed) == refusal) {
+            self.text_refusals[place] += 1;
         }
+    }
+
+    fn add(&mut self, other: &MetOfForm) {
+        add(&mut self.refusals, &other.refusals);
+        add(&mut self.text_refusals, &other.text_refusals);
+        add(&mut self.desks, &other.desks);
+        add(&mut self.questions, &other.questions);
+        add(self.texts.as_flattened_mut(), other.texts.as_flattened());
+        add(&mut self.above, &other.above);
+    }
+
+    /// A no has no word. Texts without a letter or an ending are not asked for.
+    fn lacks(&self, lacks: &mut Lacks) {
+        lacks.among(&REFUSALS.map(|number| format!("refusal {number}")), &self.refusals);
+        lacks.among(&TEXT_REFUSALS.map(|number| format!("a text refused by {number}")), &self.text_refusals);
+        let of_desk = ["TAKE BACK", "READ"].map(|name| format!("{name} of an entry by a desk other than 0"));
+        lacks.among(&of_desk, &self.desks);
         let names =
             ["ASK no", "", "ASK yes, word 0", "ASK yes", "WHY no, mask 0", "WHY no", "WHY yes, mask 0", "WHY yes"];
-        for (name, &count) in names.iter().zip(&self.questions) {
-            if count < least && !name.is_empty() {
-                lacks.push(format!("{name} {count} times"));
-            }
-        }
+        lacks.among(&names, &self.questions);
         let names = ["", "capitals", "lower case", "both cases", "", "0A", "0D 0A", "both endings"];
-        for (name, counts) in names.iter().zip(&self.texts) {
-            for (outcome, &count) in ["refused", "accepted"].iter().zip(counts) {
-                if count < least && !name.is_empty() {
-                    lacks.push(format!("a text of {name} {outcome} {count} times"));
-                }
+        for (name, counts) in names.iter().zip(&self.texts).filter(|(name, _)| !name.is_empty()) {
+            lacks.among(&["refused", "accepted"].map(|outcome| format!("a text of {name} {outcome}")), counts);
+        }
+    }
+}
+
+fn add(counts: &mut [u64], more: &[u64]) {
+    counts.iter_mut().zip(more).for_each(|(count, more)| *count += more);
+}
+
+/// What came up fewer than so many times, in words.
+struct Lacks {
+    least: u64,
+    found: Vec<String>,
+}
+
+impl Lacks {
+    /// Adds those of the named counts that are too small; what has no name is not asked for.
+    fn among(&mut self, names: &[impl AsRef<str>], counts: &[u64]) {
+        for (name, &count) in names.iter().zip(counts) {
+            if count < self.least && !name.as_ref().is_empty() {
+                self.found.push(format!("{} {count} times", name.as_ref()));
             }
         }
-        for ((_, name), &count) in ENDS.iter().zip(&self.ends) {
-            if count < least {
-                lacks.push(format!("{name} {count} times"));
-            }
-        }
-        lacks
     }
 }

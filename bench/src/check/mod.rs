@@ -4,12 +4,13 @@ mod qdimacs;
 mod smtlib;
 
 use crate::builder::Builder;
+use crate::evaluator::form::Form::Narrow;
 use crate::evaluator::question::{self, Question};
-use crate::evaluator::sheet::{check as checked, MOST_SHEET_FRAMES};
+use crate::evaluator::sheet::{self, Refusal, Sheet};
 use crate::evaluator::truth::Truth;
 use crate::families::scale::SWEEPS;
 use crate::families::{FAMILIES, SHEETS};
-use crate::generate::sheets::{sheet, MIDDLE, SMALL};
+use crate::generate::sheets::{sheet as random, MIDDLE, SMALL};
 use crate::generate::{question_texts, questions};
 use crate::rng::Rng;
 use std::collections::HashSet;
@@ -55,9 +56,13 @@ pub fn check() -> ExitCode {
     ExitCode::from(u8::from(failed > 0))
 }
 
+fn checked(bytes: &[u8]) -> Result<Sheet, Refusal> {
+    sheet::check(Narrow, bytes)
+}
+
 /// The sheet is accepted by the rules, and its prenex form is not too large.
 fn sound(bytes: &[u8]) -> bool {
-    let whole = (1..=MOST_SHEET_FRAMES).contains(&(bytes.len() / 4));
+    let whole = (1..=Narrow.most_frames()).contains(&(bytes.len() / 4));
     whole && checked(bytes).is_ok_and(|sheet| crate::qdimacs::qdimacs(&sheet).is_some())
 }
 
@@ -78,7 +83,7 @@ pub fn verdict(bytes: &[u8]) -> bool {
 /// A random sheet for the solvers themselves, most of them pinned.
 pub fn random_sheet(seed: u64, index: u64) -> Vec<u8> {
     let mut rng = Rng::new(seed, 0, index);
-    let bytes = sheet(&mut rng, if index % 2 == 0 { MIDDLE } else { SMALL });
+    let bytes = random(&mut rng, Narrow, if index % 2 == 0 { MIDDLE } else { SMALL });
     if index % 4 == 0 {
         bytes
     } else {
@@ -128,7 +133,7 @@ fn pinned(rng: &mut Rng, bytes: &[u8]) -> Vec<u8> {
 fn small_sheet(index: u64) -> Vec<u8> {
     let mut rng = Rng::new(SEED, 1, index);
     loop {
-        let bytes = sheet(&mut rng, SMALL);
+        let bytes = random(&mut rng, Narrow, SMALL);
         let bound: u32 = bytes.chunks(4).filter(|frame| frame[0] > 4).map(|frame| u32::from(frame[3])).sum();
         if bound <= 8 {
             return bytes;

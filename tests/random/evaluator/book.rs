@@ -1,6 +1,7 @@
 //! The plain book: a list of entries, oldest first, each with the desk that made it (documents/02-change-requests.md),
 //! and the answer to one script line.
 
+use super::form::Form;
 use super::truth::Truth;
 
 /// Desks are 0 to 7.
@@ -13,8 +14,8 @@ pub struct Entry {
     pub desk: u8,
 }
 
-/// The answer's six bytes; the book is changed by ENTER and TAKE BACK alone, and by no refused line.
-pub fn line(truth: &Truth, book: &mut Vec<Entry>, line: [u8; 4]) -> [u8; 6] {
+/// The answer's bytes; the book is changed by ENTER and TAKE BACK alone, and by no refused line.
+pub fn line(form: Form, truth: &Truth, book: &mut Vec<Entry>, line: [u8; 4]) -> Vec<u8> {
     let (refusal, v, word) = match cause(truth, book, line) {
         Some(number) => (number, 0, 0),
         None => {
@@ -22,8 +23,8 @@ pub fn line(truth: &Truth, book: &mut Vec<Entry>, line: [u8; 4]) -> [u8; 6] {
             (0, v, word)
         }
     };
-    let [w3, w2, w1, w0] = word.to_be_bytes();
-    [refusal, v, w3, w2, w1, w0]
+    let word = word.to_be_bytes();
+    [&[refusal, v], &word[word.len() - (form.answer() - 2)..]].concat()
 }
 
 /// The first cause of a refusal: 12 before the others, those by number except that 24 stands between 14 and 15.
@@ -37,7 +38,7 @@ fn cause(truth: &Truth, book: &[Entry], [k, a, b, c]: [u8; 4]) -> Option<u8> {
     if spare != 0 {
         return Some(12);
     }
-    let open = |variable: u8| variable < 32 && truth.open >> variable & 1 == 1;
+    let open = |variable: u8| variable < 64 && truth.open >> variable & 1 == 1;
     match k {
         0x10 if !open(a) => Some(13),
         0x10 if b > 1 => Some(14),
@@ -50,7 +51,7 @@ fn cause(truth: &Truth, book: &[Entry], [k, a, b, c]: [u8; 4]) -> Option<u8> {
 }
 
 /// V and the word of a line that meets no cause.
-fn accepted(truth: &Truth, book: &mut Vec<Entry>, [k, a, b, c]: [u8; 4]) -> (u8, u32) {
+fn accepted(truth: &Truth, book: &mut Vec<Entry>, [k, a, b, c]: [u8; 4]) -> (u8, u64) {
     let (entered, values) = entries(book);
     match k {
         0x10 => {
@@ -71,13 +72,13 @@ fn accepted(truth: &Truth, book: &mut Vec<Entry>, [k, a, b, c]: [u8; 4]) -> (u8,
 }
 
 /// V and the word that tell an entry: its variable, and 256 times its desk plus its value.
-fn told(entry: Entry) -> (u8, u32) {
-    (entry.variable, 256 * u32::from(entry.desk) + u32::from(entry.value))
+fn told(entry: Entry) -> (u8, u64) {
+    (entry.variable, 256 * u64::from(entry.desk) + u64::from(entry.value))
 }
 
 /// The mask of the entered variables, and their values. What is asked does not depend on desks.
-fn entries(book: &[Entry]) -> (u32, u32) {
+fn entries(book: &[Entry]) -> (u64, u64) {
     book.iter().fold((0, 0), |(entered, values), entry| {
-        (entered | 1 << entry.variable, values | u32::from(entry.value) << entry.variable)
+        (entered | 1 << entry.variable, values | u64::from(entry.value) << entry.variable)
     })
 }

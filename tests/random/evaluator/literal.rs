@@ -3,8 +3,8 @@
 
 use super::sheet::{Kind, Range, Sheet};
 
-/// The value of a frame under a setting of all 32 variables.
-fn value(sheet: &Sheet, frame: usize, setting: u32) -> bool {
+/// The value of a frame under a setting of all variables.
+fn value(sheet: &Sheet, frame: usize, setting: u64) -> bool {
     match sheet.frames[frame] {
         Kind::Never => false,
         Kind::Input { variable } => setting >> variable & 1 == 1,
@@ -16,15 +16,15 @@ fn value(sheet: &Sheet, frame: usize, setting: u32) -> bool {
     }
 }
 
-/// The setting with all settings of the range's variables.
-fn ranged(setting: u32, range: Range) -> impl Iterator<Item = u32> {
+/// The setting with all settings of the range's variables, of which there are fewer than 64.
+fn ranged(setting: u64, range: Range) -> impl Iterator<Item = u64> {
     let rest = setting & !range.mask();
-    (0..1u64 << range.count).map(move |bits| rest | ((bits << range.first) as u32))
+    (0..1u64 << range.count).map(move |bits| rest | bits << range.first)
 }
 
 /// All words that are 0 off the mask, ascending.
-fn words(mask: u32) -> impl Iterator<Item = u32> {
-    let mut next = Some(0u32);
+fn words(mask: u64) -> impl Iterator<Item = u64> {
+    let mut next = Some(0u64);
     std::iter::from_fn(move || {
         let word = next?;
         next = if word == mask { None } else { Some((word | !mask).wrapping_add(1) & mask) };
@@ -32,20 +32,20 @@ fn words(mask: u32) -> impl Iterator<Item = u32> {
     })
 }
 
-pub fn ask(sheet: &Sheet, entered: u32, values: u32) -> Option<u32> {
+pub fn ask(sheet: &Sheet, entered: u64, values: u64) -> Option<u64> {
     let last = sheet.frames.len() - 1;
     words(sheet.open).find(|&word| word & entered == values && value(sheet, last, word))
 }
 
-pub fn why(sheet: &Sheet, entered: u32, values: u32) -> (bool, u32) {
+pub fn why(sheet: &Sheet, entered: u64, values: u64) -> (bool, u64) {
     let last = sheet.frames.len() - 1;
     let asked = ask(sheet, entered, values);
     let verdict = asked.is_some();
     let mut left = if verdict { sheet.open } else { entered };
     let values = asked.unwrap_or(values);
-    for variable in (0..32u8).rev() {
+    for variable in (0..sheet.form.variables()).rev() {
         let mask = left & !(1 << variable);
-        let agreeing = |word: &u32| word & mask == values & mask;
+        let agreeing = |word: &u64| word & mask == values & mask;
         if words(sheet.open).filter(agreeing).all(|word| value(sheet, last, word) == verdict) {
             left = mask;
         }
@@ -64,10 +64,15 @@ pub fn cost(sheet: &Sheet) -> u64 {
                 costs[left].saturating_add(costs[right]).saturating_add(1)
             }
             Kind::Exists { frame, binds } | Kind::Forall { frame, binds } => {
-                costs[frame].saturating_mul(1 << binds.count).saturating_add(1)
+                costs[frame].saturating_mul(settings(binds.count.into())).saturating_add(1)
             }
         };
         costs.push(cost);
     }
-    costs.last().unwrap().saturating_mul(1 << sheet.open.count_ones())
+    costs.last().unwrap().saturating_mul(settings(sheet.open.count_ones()))
+}
+
+/// The number of settings of so many variables, or the largest number.
+fn settings(variables: u32) -> u64 {
+    1u64.checked_shl(variables).unwrap_or(u64::MAX)
 }

@@ -2,40 +2,56 @@
 //! tables, the refusals in their order, the plain book, the text, questions of other tools. Slow and plain on purpose.
 
 pub mod book;
+pub mod form;
 pub mod literal;
 pub mod question;
 pub mod sheet;
 pub mod text;
 pub mod truth;
 
-use sheet::{Refusal, FRAME, MOST_SCRIPT_FRAMES, MOST_SHEET_FRAMES};
+use form::{Form, LINE, MOST_LINES};
+use sheet::Refusal;
 
-pub const ANSWER: usize = 6;
+/// What an entry is given, but for the answer buffer.
+#[derive(Clone, Copy)]
+pub struct Call<'a> {
+    pub form: Form,
+    pub sheet: &'a [u8],
+    pub script: &'a [u8],
+}
+
+impl Call<'_> {
+    /// The bytes of all answers to the script's whole lines.
+    pub fn needed(&self) -> usize {
+        self.script.len() / LINE * self.form.answer()
+    }
+}
 
 /// A whole run: the answers' bytes, or the refusal.
-pub fn run(sheet: &[u8], script: &[u8], answers_len: usize) -> Result<Vec<u8>, Refusal> {
-    sizes(sheet, script, answers_len).map_err(|number| Refusal { number, place: 0 })?;
-    let truth = truth::Truth::of(&sheet::check(sheet)?);
+pub fn run(call: Call, answers_len: usize) -> Result<Vec<u8>, Refusal> {
+    sizes(call, answers_len).map_err(|number| Refusal { number, place: 0 })?;
+    let truth = truth::Truth::of(&sheet::check(call.form, call.sheet)?);
     let mut book = Vec::new();
-    let answers = script.chunks_exact(FRAME).flat_map(|line| book::line(&truth, &mut book, line.try_into().unwrap()));
-    Ok(answers.collect())
+    let lines = call.script.chunks_exact(LINE);
+    Ok(lines.flat_map(|line| book::line(call.form, &truth, &mut book, line.try_into().unwrap())).collect())
 }
 
 /// Sheet 2, 3; script 2, 4; then 5.
-fn sizes(sheet: &[u8], script: &[u8], answers_len: usize) -> Result<(), u8> {
-    if sheet.is_empty() || !sheet.len().is_multiple_of(FRAME) {
+fn sizes(call: Call, answers_len: usize) -> Result<(), u8> {
+    let Call { form, sheet, script } = call;
+    if sheet.is_empty() || !sheet.len().is_multiple_of(form.frame()) {
         return Err(2);
     }
-    if sheet.len() / FRAME > MOST_SHEET_FRAMES {
+    if sheet.len() / form.frame() > form.most_frames() {
         return Err(3);
     }
-    if !script.len().is_multiple_of(FRAME) {
+    if !script.len().is_multiple_of(LINE) {
         return Err(2);
     }
-    if script.len() / FRAME > MOST_SCRIPT_FRAMES {
+    if script.len() / LINE > MOST_LINES {
         return Err(4);
     }
-    if answers_len < script.len() / FRAME * ANSWER {
+    if answers_len < call.needed() {
         return Err(5);
     }
     Ok(())

@@ -1,7 +1,7 @@
 //! Questions in QDIMACS 1.1 (documents/02-change-requests.md): which texts are well formed, the sheet of a question, and
 //! its truth with every variable tried both ways. A text is taken apart into lines and these into words.
 
-use super::sheet::{MOST_SHEET_FRAMES, VARIABLES};
+use super::form::Form::Narrow;
 use super::text::digits_line;
 use std::collections::BTreeSet;
 
@@ -51,11 +51,11 @@ pub fn printed(text: &[u8]) -> Vec<u8> {
 /// The frames of a text's sheet.
 pub fn sheet(text: &[u8]) -> Result<Vec<[u8; 4]>, Cause> {
     let question = read(text).ok_or(Cause::Text)?;
-    if question.variables > i32::from(VARIABLES) {
+    if question.variables > i32::from(Narrow.variables()) {
         return Err(Cause::Variables);
     }
     let frames = question.frames();
-    if frames.len() > MOST_SHEET_FRAMES {
+    if frames.len() > Narrow.most_frames() {
         return Err(Cause::Frames);
     }
     if question.clauses.iter().all(|clause| clause.iter().any(|&literal| clause.contains(&-literal))) {
@@ -140,7 +140,7 @@ impl Question {
     }
 
     /// The variables that the sheet has open, as a word.
-    pub fn open(&self) -> u32 {
+    pub fn open(&self) -> u64 {
         let atoms: Vec<i32> = self.sets.iter().flat_map(|set| set.atoms.clone()).collect();
         let open = self.occurring().into_iter().filter(|&variable| !atoms.contains(&(variable as i32)));
         open.fold(0, |word, variable| word | 1 << (variable - 1))
@@ -169,13 +169,13 @@ impl Question {
     }
 
     /// The truth under a setting of the open variables; bit k - 1 is variable k.
-    pub fn holds(&self, setting: u32) -> bool {
+    pub fn holds(&self, setting: u64) -> bool {
         let atoms: Vec<(bool, i32)> =
             self.sets.iter().flat_map(|set| set.atoms.iter().map(|&atom| (set.forall, atom))).collect();
         self.holds_inside(&atoms, setting)
     }
 
-    fn holds_inside(&self, atoms: &[(bool, i32)], setting: u32) -> bool {
+    fn holds_inside(&self, atoms: &[(bool, i32)], setting: u64) -> bool {
         let Some((&(forall, atom), inner)) = atoms.split_first() else {
             return self.matrix_holds(setting);
         };
@@ -188,7 +188,7 @@ impl Question {
         }
     }
 
-    pub fn matrix_holds(&self, setting: u32) -> bool {
+    pub fn matrix_holds(&self, setting: u64) -> bool {
         let literal = |&number: &i32| (setting >> (number.unsigned_abs() - 1) & 1 == 1) == (number > 0);
         self.clauses.iter().all(|clause| clause.iter().any(literal))
     }
@@ -228,7 +228,7 @@ fn satisfiable(clauses: &[Vec<i32>]) -> bool {
 }
 
 /// All words that are 0 off the mask: the mask itself, then ever smaller ones.
-pub fn settings(mask: u32) -> impl Iterator<Item = u32> {
-    let smaller = move |word: &u32| word.checked_sub(1).map(|less| less & mask);
+pub fn settings(mask: u64) -> impl Iterator<Item = u64> {
+    let smaller = move |word: &u64| word.checked_sub(1).map(|less| less & mask);
     std::iter::successors(Some(mask), smaller)
 }

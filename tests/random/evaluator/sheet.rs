@@ -1,14 +1,11 @@
 //! Sheet frames, their open variables, and the refusals 6 to 11.
 
-pub const FRAME: usize = 4;
-pub const MOST_SHEET_FRAMES: usize = 200;
-pub const MOST_SCRIPT_FRAMES: usize = 1000;
-pub const VARIABLES: u8 = 32;
+use super::form::Form;
 
 #[derive(Clone, Copy, Debug, PartialEq, Eq)]
 pub struct Refusal {
     pub number: u8,
-    pub place: u8,
+    pub place: u16,
 }
 
 #[derive(Clone, Copy, Debug)]
@@ -35,26 +32,27 @@ impl Range {
     }
 
     /// Bit k is variable k.
-    pub fn mask(self) -> u32 {
+    pub fn mask(self) -> u64 {
         self.variables().fold(0, |mask, variable| mask | 1 << variable)
     }
 }
 
 /// An accepted sheet.
 pub struct Sheet {
+    pub form: Form,
     pub frames: Vec<Kind>,
     /// The variables open in the last frame.
-    pub open: u32,
+    pub open: u64,
 }
 
-/// Frame by frame 6 to 10, then 11. The sheet has 1 to 200 whole frames.
-pub fn check(sheet: &[u8]) -> Result<Sheet, Refusal> {
+/// Frame by frame 6 to 10, then 11. The sheet has whole frames, at least one and not too many.
+pub fn check(form: Form, sheet: &[u8]) -> Result<Sheet, Refusal> {
     let mut frames = Vec::new();
     let mut open = Vec::new();
     let mut bound = 0;
-    for (number, bytes) in sheet.chunks_exact(FRAME).enumerate() {
-        let refused = |cause| Refusal { number: cause, place: number as u8 };
-        let kind = decode(number, bytes.try_into().unwrap()).map_err(refused)?;
+    for (number, frame) in sheet.chunks_exact(form.frame()).enumerate() {
+        let refused = |cause| Refusal { number: cause, place: number as u16 };
+        let kind = decode(form, number, form.fields(frame)).map_err(refused)?;
         if binds(kind) & bound != 0 {
             return Err(refused(10));
         }
@@ -64,13 +62,13 @@ pub fn check(sheet: &[u8]) -> Result<Sheet, Refusal> {
     }
     let last = frames.len() - 1;
     if open[last] & bound != 0 {
-        return Err(Refusal { number: 11, place: last as u8 });
+        return Err(Refusal { number: 11, place: last as u16 });
     }
-    Ok(Sheet { frames, open: open[last] })
+    Ok(Sheet { form, frames, open: open[last] })
 }
 
 /// The frame's kind with its fields, or the first of 6, 7, 8, 9.
-fn decode(number: usize, [k, a, b, c]: [u8; 4]) -> Result<Kind, u8> {
+fn decode(form: Form, number: usize, [k, a, b, c]: [u16; 4]) -> Result<Kind, u8> {
     let spare = match k {
         0x00 => a | b | c,
         0x01 | 0x02 => b | c,
@@ -86,19 +84,20 @@ fn decode(number: usize, [k, a, b, c]: [u8; 4]) -> Result<Kind, u8> {
     if names_a || names_b {
         return Err(8);
     }
+    let variables = u16::from(form.variables());
     let range_broken = match k {
-        0x01 => a >= VARIABLES,
-        0x05 | 0x06 => !(1..=VARIABLES).contains(&c) || u16::from(b) + u16::from(c) > u16::from(VARIABLES),
+        0x01 => a >= variables,
+        0x05 | 0x06 => !(1..=variables).contains(&c) || u32::from(b) + u32::from(c) > u32::from(variables),
         _ => false,
     };
     if range_broken {
         return Err(9);
     }
     let (frame, left, right) = (usize::from(a), usize::from(a), usize::from(b));
-    let binds = Range { first: b, count: c };
+    let binds = Range { first: b as u8, count: c as u8 };
     Ok(match k {
         0x00 => Kind::Never,
-        0x01 => Kind::Input { variable: a },
+        0x01 => Kind::Input { variable: a as u8 },
         0x02 => Kind::Not { frame },
         0x03 => Kind::And { left, right },
         0x04 => Kind::Or { left, right },
@@ -107,7 +106,7 @@ fn decode(number: usize, [k, a, b, c]: [u8; 4]) -> Result<Kind, u8> {
     })
 }
 
-fn binds(kind: Kind) -> u32 {
+fn binds(kind: Kind) -> u64 {
     match kind {
         Kind::Exists { binds, .. } | Kind::Forall { binds, .. } => binds.mask(),
         _ => 0,
@@ -115,7 +114,7 @@ fn binds(kind: Kind) -> u32 {
 }
 
 /// `open` holds the open variables of all earlier frames.
-pub fn open_variables(kind: Kind, open: &[u32]) -> u32 {
+pub fn open_variables(kind: Kind, open: &[u64]) -> u64 {
     match kind {
         Kind::Never => 0,
         Kind::Input { variable } => 1 << variable,

@@ -10,9 +10,9 @@ type Table = Vec<u64>;
 
 pub struct Truth {
     /// The variables open in the last frame.
-    pub open: u32,
+    pub open: u64,
     /// The settings of the reached variables, all others 0: setting i as a word, ascending.
-    settings: Vec<u32>,
+    settings: Vec<u64>,
     last: Table,
 }
 
@@ -30,18 +30,18 @@ impl Truth {
     }
 
     /// ASK: the smallest word that agrees with the entries, makes the last frame true and is 0 off its open variables.
-    pub fn ask(&self, entered: u32, values: u32) -> Option<u32> {
-        let fits = |word: u32| word & !self.open == 0 && word & entered == values;
+    pub fn ask(&self, entered: u64, values: u64) -> Option<u64> {
+        let fits = |word: u64| word & !self.open == 0 && word & entered == values;
         self.rows().find(|&(word, truth)| truth && fits(word)).map(|(word, _)| word)
     }
 
     /// WHY: ASK's verdict and the mask of what is left.
-    pub fn why(&self, entered: u32, values: u32) -> (bool, u32) {
+    pub fn why(&self, entered: u64, values: u64) -> (bool, u64) {
         let (verdict, mut left, values) = match self.ask(entered, values) {
             Some(word) => (true, self.open, word),
             None => (false, entered, values),
         };
-        for variable in (0..32).rev() {
+        for variable in (0..64).rev() {
             let dropped = left & !(1 << variable);
             if dropped != left && self.always(dropped, values, verdict) {
                 left = dropped;
@@ -51,11 +51,11 @@ impl Truth {
     }
 
     /// All settings that agree with the values on the mask give the last frame that truth.
-    fn always(&self, mask: u32, values: u32, truth: bool) -> bool {
+    fn always(&self, mask: u64, values: u64, truth: bool) -> bool {
         self.rows().all(|(word, value)| word & mask != values & mask || value == truth)
     }
 
-    fn rows(&self) -> impl Iterator<Item = (u32, bool)> + '_ {
+    fn rows(&self) -> impl Iterator<Item = (u64, bool)> + '_ {
         let value = |index: usize| self.last[index / 64] >> (index % 64) & 1 == 1;
         self.settings.iter().enumerate().map(move |(index, &word)| (word, value(index)))
     }
@@ -95,8 +95,8 @@ fn reached_variables(frames: &[Kind], reached: &[bool]) -> Vec<u8> {
 }
 
 /// Bit p of the index is the p-th variable; as the variables ascend, so do the words.
-fn settings(variables: &[u8]) -> Vec<u32> {
-    let word = |index: u32| {
+fn settings(variables: &[u8]) -> Vec<u64> {
+    let word = |index: u64| {
         let bits = variables.iter().enumerate();
         bits.fold(0, |word, (position, &variable)| word | (index >> position & 1) << variable)
     };

@@ -1,10 +1,11 @@
 //! Faults in sheets and scripts.
 
+use crate::evaluator::form::Form;
 use crate::rng::Rng;
 
 /// A value other than the byte's: a neighbour, a flipped bit, an edge of the rules, or any.
 pub fn faulty(rng: &mut Rng, byte: u8) -> u8 {
-    let edges = [0, 1, 2, 5, 6, 7, 8, 0x0F, 0x10, 0x14, 0x15, 31, 32, 33, 199, 200, 255];
+    let edges = [0, 1, 2, 5, 6, 7, 8, 0x0F, 0x10, 0x14, 0x15, 31, 32, 33, 63, 64, 65, 199, 200, 255];
     let value = match rng.below(4) {
         0 => rng.pick(&[byte.wrapping_add(1), byte.wrapping_sub(1)]),
         1 => byte ^ 1 << rng.below(8),
@@ -40,21 +41,28 @@ pub fn damaged(rng: &mut Rng, bytes: &[u8]) -> Vec<u8> {
 
 /// The sheet with one frame more that breaks a rule about frames, or may: a second binding, a bound variable left open,
 /// a frame that names itself or a later one.
-pub fn misruled(rng: &mut Rng, sheet: &[u8]) -> Vec<u8> {
-    let frames: Vec<[u8; 4]> = sheet.chunks_exact(4).map(|frame| frame.try_into().unwrap()).collect();
-    let last = (frames.len() - 1) as u8;
-    let quantifiers: Vec<[u8; 4]> = frames.iter().copied().filter(|frame| frame[0] >= 0x05).collect();
+pub fn misruled(rng: &mut Rng, form: Form, sheet: &[u8]) -> Vec<u8> {
+    let frames: Vec<[u16; 4]> = sheet.chunks_exact(form.frame()).map(|frame| form.fields(frame)).collect();
+    let last = (frames.len() - 1) as u16;
+    let quantifiers: Vec<[u16; 4]> = frames.iter().copied().filter(|frame| frame[0] >= 0x05).collect();
+    let frame = if quantifiers.is_empty() {
+        [0x04, last, last + 1 + rng.below(2) as u16, 0]
+    } else {
+        let [k, a, b, c] = rng.pick(&quantifiers);
+        match rng.below(4) {
+            0 => [k, last, b, c],
+            1 => [0x0B - k, a, b + c - 1, 1],
+            2 => [0x03, last, a, 0],
+            _ => [0x01, b, 0, 0],
+        }
+    };
+    [sheet, &form.bytes(frame)].concat()
+}
+
+/// A sheet with one byte's fault: still of whole frames.
+pub fn damaged_frame(rng: &mut Rng, sheet: &[u8]) -> Vec<u8> {
     let mut sheet = sheet.to_vec();
-    if quantifiers.is_empty() {
-        sheet.extend([0x04, last, last + 1 + rng.below(2) as u8, 0]);
-        return sheet;
-    }
-    let [k, a, b, c] = rng.pick(&quantifiers);
-    sheet.extend(match rng.below(4) {
-        0 => [k, last, b, c],
-        1 => [0x0B - k, a, b + c - 1, 1],
-        2 => [0x03, last, a, 0],
-        _ => [0x01, b, 0, 0],
-    });
+    let place = rng.below(sheet.len());
+    sheet[place] = faulty(rng, sheet[place]);
     sheet
 }

@@ -1,61 +1,64 @@
 //! A sheet while it is written. A frame is usable as long as no variable that the sheet binds is open in it; only such
 //! frames may be reached from the last one.
 
+use crate::evaluator::form::Form;
+use crate::evaluator::sheet::Range;
 use crate::rng::Rng;
 
 pub struct Draft {
+    pub form: Form,
     pub bytes: Vec<u8>,
-    open: Vec<u32>,
-    bound: u32,
+    open: Vec<u64>,
+    bound: u64,
     frames: usize,
 }
 
 impl Draft {
     /// A draft of at most so many frames.
-    pub fn new(frames: usize) -> Draft {
-        Draft { bytes: Vec::new(), open: Vec::new(), bound: 0, frames }
+    pub fn new(form: Form, frames: usize) -> Draft {
+        Draft { form, bytes: Vec::new(), open: Vec::new(), bound: 0, frames }
     }
 
     pub fn room(&self) -> usize {
         self.frames - self.open.len()
     }
 
-    pub fn open(&self, frame: u8) -> u32 {
-        self.open[usize::from(frame)]
+    pub fn open(&self, frame: usize) -> u64 {
+        self.open[frame]
     }
 
     pub fn unbound(&self, variable: u8) -> bool {
         self.bound >> variable & 1 == 0
     }
 
-    fn push(&mut self, bytes: [u8; 4], open: u32) -> u8 {
-        self.bytes.extend(bytes);
+    fn push(&mut self, fields: [usize; 4], open: u64) -> usize {
+        self.bytes.extend(self.form.bytes(fields.map(|field| field as u16)));
         self.open.push(open);
-        (self.open.len() - 1) as u8
+        self.open.len() - 1
     }
 
-    pub fn never(&mut self) -> u8 {
+    pub fn never(&mut self) -> usize {
         self.push([0x00, 0, 0, 0], 0)
     }
 
-    pub fn input(&mut self, variable: u8) -> u8 {
-        self.push([0x01, variable, 0, 0], 1 << variable)
+    pub fn input(&mut self, variable: u8) -> usize {
+        self.push([0x01, variable.into(), 0, 0], 1 << variable)
     }
 
-    pub fn not(&mut self, frame: u8) -> u8 {
+    pub fn not(&mut self, frame: usize) -> usize {
         self.push([0x02, frame, 0, 0], self.open(frame))
     }
 
-    pub fn and(&mut self, left: u8, right: u8) -> u8 {
+    pub fn and(&mut self, left: usize, right: usize) -> usize {
         self.push([0x03, left, right, 0], self.open(left) | self.open(right))
     }
 
-    pub fn or(&mut self, left: u8, right: u8) -> u8 {
+    pub fn or(&mut self, left: usize, right: usize) -> usize {
         self.push([0x04, left, right, 0], self.open(left) | self.open(right))
     }
 
     /// AND or OR.
-    pub fn gate(&mut self, rng: &mut Rng, left: u8, right: u8) -> u8 {
+    pub fn gate(&mut self, rng: &mut Rng, left: usize, right: usize) -> usize {
         if rng.percent(50) {
             self.and(left, right)
         } else {
@@ -64,14 +67,14 @@ impl Draft {
     }
 
     /// Exactly one of the two; five frames.
-    pub fn differ(&mut self, left: u8, right: u8) -> u8 {
+    pub fn differ(&mut self, left: usize, right: usize) -> usize {
         let (not_left, not_right) = (self.not(left), self.not(right));
         let (first, second) = (self.and(left, not_right), self.and(not_left, right));
         self.or(first, second)
     }
 
     /// INPUT or its NOT; at most two frames.
-    pub fn literal(&mut self, rng: &mut Rng, variable: u8) -> u8 {
+    pub fn literal(&mut self, rng: &mut Rng, variable: u8) -> usize {
         let input = self.input(variable);
         if rng.percent(50) && self.room() > 1 {
             self.not(input)
@@ -80,33 +83,34 @@ impl Draft {
         }
     }
 
-    pub fn quantifier(&mut self, forall: bool, frame: u8, first: u8, count: u8) -> u8 {
-        let mask = (((1u64 << count) - 1) << first) as u32;
+    pub fn quantifier(&mut self, forall: bool, frame: usize, first: u8, count: u8) -> usize {
+        let mask = Range { first, count }.mask();
         self.bound |= mask;
-        self.push([0x05 + u8::from(forall), frame, first, count], self.open(frame) & !mask)
+        let kind = 0x05 + usize::from(forall);
+        self.push([kind, frame, first.into(), count.into()], self.open(frame) & !mask)
     }
 
-    fn usable(&self) -> Vec<u8> {
-        let frames = self.open.iter().enumerate();
-        frames.filter(|(_, &open)| open & self.bound == 0).map(|(number, _)| number as u8).collect()
+    fn usable(&self) -> impl Iterator<Item = usize> + '_ {
+        (0..self.open.len()).filter(|&frame| self.open(frame) & self.bound == 0)
     }
 
     /// A usable frame, a late one more often.
-    pub fn some_usable(&self, rng: &mut Rng) -> Option<u8> {
-        let usable = self.usable();
-        if usable.is_empty() {
+    pub fn some_usable(&self, rng: &mut Rng) -> Option<usize> {
+        let count = self.usable().count();
+        if count == 0 {
             return None;
         }
-        Some(usable[rng.below(usable.len()).max(rng.below(usable.len()))])
+        self.usable().nth(rng.below(count).max(rng.below(count)))
     }
 
-    pub fn some_frame(&self, rng: &mut Rng) -> u8 {
-        rng.below(self.open.len()) as u8
+    pub fn some_frame(&self, rng: &mut Rng) -> usize {
+        rng.below(self.open.len())
     }
 
-    /// A range of unbound variables around one of the wanted ones, as first and count; wide ones are rarer.
-    pub fn some_range(&self, rng: &mut Rng, wanted: u32) -> Option<(u8, u8)> {
-        let candidates: Vec<u8> = (0..32).filter(|&v| wanted >> v & 1 == 1 && self.unbound(v)).collect();
+    /// A range of unbound variables around one of the wanted ones, as first and count; large ones are rarer.
+    pub fn some_range(&self, rng: &mut Rng, wanted: u64) -> Option<(u8, u8)> {
+        let candidates: Vec<u8> =
+            (0..self.form.variables()).filter(|&v| wanted >> v & 1 == 1 && self.unbound(v)).collect();
         if candidates.is_empty() {
             return None;
         }
@@ -116,7 +120,7 @@ impl Draft {
         while first > 0 && self.unbound(first - 1) && rng.percent(go_on) {
             first -= 1;
         }
-        while end < 32 && self.unbound(end) && rng.percent(go_on) {
+        while end < self.form.variables() && self.unbound(end) && rng.percent(go_on) {
             end += 1;
         }
         Some((first, end - first))

@@ -1,5 +1,6 @@
 //! Random sheets, scripts, texts and questions, sound and damaged.
 
+pub mod chains;
 pub mod damage;
 pub mod draft;
 pub mod question_faults;

@@ -1,6 +1,7 @@
 //! Random accepted sheets of several shapes.
 
 use super::draft::Draft;
+use crate::evaluator::form::Form;
 use crate::rng::Rng;
 
 /// The most frames and variables of a sheet. Its solver and its truth table take time by these.
@@ -13,15 +14,18 @@ pub struct Size {
 pub const SMALL: Size = Size { frames: 14, variables: 4 };
 pub const MIDDLE: Size = Size { frames: 50, variables: 8 };
 pub const LARGE: Size = Size { frames: 200, variables: 12 };
+/// For wide sheets alone: with frames named by both bytes of a field, and as many as there may be.
+pub const LARGER: Size = Size { frames: 700, variables: 12 };
+pub const LARGEST: Size = Size { frames: 3000, variables: 12 };
 
-pub fn sheet(rng: &mut Rng, size: Size) -> Vec<u8> {
+pub fn sheet(rng: &mut Rng, form: Form, size: Size) -> Vec<u8> {
     let frames = upper(rng, size.frames);
     if frames == 1 {
-        return single(rng);
+        return single(rng, form);
     }
     let count = upper(rng, size.variables);
-    let variables = variables(rng, count);
-    let mut draft = Draft::new(frames);
+    let variables = variables(rng, form, count);
+    let mut draft = Draft::new(form, frames);
     match rng.below(10) {
         0..=4 => mixed(rng, &mut draft, &variables),
         5..=6 => nested(rng, &mut draft, &variables),
@@ -40,11 +44,11 @@ fn upper(rng: &mut Rng, most: usize) -> usize {
 /// A sheet with two quantified frames that say whether the number of set variables is odd, and whether it is even. Both
 /// at once never holds, but a search finds that out by solving them under nearly every setting, which should make more
 /// records than the tables take. One setting makes the sheet true all the same.
-pub fn table_filling(rng: &mut Rng) -> Vec<u8> {
-    let variables = variables(rng, 12);
+pub fn table_filling(rng: &mut Rng, form: Form) -> Vec<u8> {
+    let variables = variables(rng, form, 12);
     let (open, bound) = variables.split_at(10);
-    let mut draft = Draft::new(200);
-    let inputs: Vec<u8> = open.iter().map(|&variable| draft.input(variable)).collect();
+    let mut draft = Draft::new(form, 200);
+    let inputs: Vec<usize> = open.iter().map(|&variable| draft.input(variable)).collect();
     let parity = inputs[1..].iter().fold(inputs[0], |parity, &input| draft.differ(parity, input));
     let first = draft.input(bound[0]);
     let or = draft.or(parity, first);
@@ -63,26 +67,29 @@ pub fn table_filling(rng: &mut Rng) -> Vec<u8> {
     draft.bytes
 }
 
-fn single(rng: &mut Rng) -> Vec<u8> {
-    let mut draft = Draft::new(1);
+fn single(rng: &mut Rng, form: Form) -> Vec<u8> {
+    let mut draft = Draft::new(form, 1);
     if rng.percent(30) {
         draft.never();
     } else {
-        draft.input(rng.below(32) as u8);
+        draft.input(rng.below(form.variables().into()) as u8);
     }
     draft.bytes
 }
 
-/// Distinct variables, in random order: the lowest, the highest, next to each other, or anywhere.
-fn variables(rng: &mut Rng, count: usize) -> Vec<u8> {
+/// Distinct variables, in random order: the lowest, the highest, next to each other, or anywhere. Those of a wide sheet
+/// are often of both halves of a word.
+fn variables(rng: &mut Rng, form: Form, count: usize) -> Vec<u8> {
+    let all = usize::from(form.variables());
     let first = match rng.below(4) {
         0 => 0,
-        1 => 32 - count,
-        _ => rng.below(33 - count),
+        1 => all - count,
+        2 if form == Form::Wide => 32 - rng.below(count),
+        _ => rng.below(all + 1 - count),
     };
     let mut variables: Vec<u8> = (first as u8..(first + count) as u8).collect();
     if rng.percent(35) {
-        variables = (0..32).collect();
+        variables = (0..form.variables()).collect();
         rng.shuffle(&mut variables);
         variables.truncate(count);
     }
@@ -141,7 +148,7 @@ fn mixed(rng: &mut Rng, draft: &mut Draft, variables: &[u8]) {
 }
 
 /// A quantifier of one of the frame's open variables and perhaps others, if there is one to bind.
-fn quantified(rng: &mut Rng, draft: &mut Draft, frame: u8) -> u8 {
+fn quantified(rng: &mut Rng, draft: &mut Draft, frame: usize) -> usize {
     match draft.some_range(rng, draft.open(frame)) {
         Some((first, count)) => draft.quantifier(rng.percent(50), frame, first, count),
         None => draft.not(frame),
@@ -149,10 +156,9 @@ fn quantified(rng: &mut Rng, draft: &mut Draft, frame: u8) -> u8 {
 }
 
 /// A quantifier that binds a variable outside the sheet's INPUT frames, over any frame.
-fn idle(rng: &mut Rng, draft: &mut Draft, variables: &[u8]) -> u8 {
-    let used = variables.iter().fold(0u32, |mask, variable| mask | 1 << variable);
+fn idle(rng: &mut Rng, draft: &mut Draft, variables: &[u8]) -> usize {
     let frame = draft.some_frame(rng);
-    let unused: Vec<u8> = (0..32).filter(|&v| used >> v & 1 == 0 && draft.unbound(v)).collect();
+    let unused: Vec<u8> = (0..draft.form.variables()).filter(|v| !variables.contains(v) && draft.unbound(*v)).collect();
     if unused.is_empty() {
         return draft.not(frame);
     }
@@ -178,7 +184,7 @@ fn nested(rng: &mut Rng, draft: &mut Draft, variables: &[u8]) {
 }
 
 /// The frame, or its NOT, or joined with an INPUT of a variable that is not bound yet; at most seven frames.
-fn between(rng: &mut Rng, draft: &mut Draft, variables: &[u8], frame: u8) -> u8 {
+fn between(rng: &mut Rng, draft: &mut Draft, variables: &[u8], frame: usize) -> usize {
     let variable = rng.pick(variables);
     match rng.below(4) {
         0 => draft.not(frame),
@@ -195,7 +201,7 @@ fn between(rng: &mut Rng, draft: &mut Draft, variables: &[u8], frame: u8) -> u8 
 }
 
 /// A function of the variables in turn that seldom settles early.
-fn matrix(rng: &mut Rng, draft: &mut Draft, variables: &[u8]) -> u8 {
+fn matrix(rng: &mut Rng, draft: &mut Draft, variables: &[u8]) -> usize {
     let mut frame = draft.input(variables[0]);
     for &variable in &variables[1..] {
         if draft.room() < 8 {

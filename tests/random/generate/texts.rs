@@ -1,19 +1,22 @@
-//! Texts for the program.
+//! Texts for the program and the converter.
 
 use super::damage::faulty;
+use crate::evaluator::form::{Form, LINE};
+use crate::evaluator::Call;
 use crate::rng::Rng;
 
-/// Sheet lines, the empty line, script lines; in capitals, each line ended by 0A.
-pub fn text(sheet: &[u8], script: &[u8]) -> Vec<u8> {
-    let mut text = lines(sheet);
+/// Sheet lines, the empty line, script lines; in capitals, each line ended by 0A. Odd bytes at a part's end are a short
+/// line.
+pub fn text(call: Call) -> Vec<u8> {
+    let mut text = lines(call.sheet, call.form.frame());
     text.push(b'\n');
-    text.extend(lines(script));
+    text.extend(lines(call.script, LINE));
     text
 }
 
-fn lines(bytes: &[u8]) -> Vec<u8> {
+fn lines(bytes: &[u8], each: usize) -> Vec<u8> {
     let line = |frame: &[u8]| frame.iter().map(|byte| format!("{byte:02X}")).collect::<String>() + "\n";
-    bytes.chunks(4).flat_map(|frame| line(frame).into_bytes()).collect()
+    bytes.chunks(each).flat_map(|frame| line(frame).into_bytes()).collect()
 }
 
 /// The text with none, some or all letters in lower case, and none, some or all lines ended by 0D 0A.
@@ -41,7 +44,7 @@ const BLANKS: &[u8] = b" \t\x0B\x0C\0\x85\xA0";
 const EMPTY_LINES: &[&[u8]] = &[b"\n", b"\r\n"];
 /// What no line ends with.
 const NO_ENDINGS: &[&[u8]] = &[b"", b"\r", b"\r\r\n", b"\n\r", b" ", b" \n", b"\r \n", b"\t\r\n"];
-const PIECES: &[&[u8]] = &[b"01000000", b"13000000", b"\n", b"\r\n", b"\r"];
+const PIECES: &[&[u8]] = &[b"01000000", b"01000000000000", b"13000000", b"\n", b"\n", b"\r\n", b"\r"];
 
 /// A text with a fault, or one that looks like it: most, but not all, are refused.
 pub fn damaged(rng: &mut Rng, text: &[u8]) -> Vec<u8> {
@@ -85,9 +88,32 @@ fn replace_ending(rng: &mut Rng, text: &mut Vec<u8>, by: &[u8]) {
     text.splice(start..=end, by.iter().copied());
 }
 
+/// A text of the form with a line that is no line of it, or not there, most often an ended one of the other form in the
+/// sheet's part: put before a line, or in its place. A text that gets a wide line first is a wide one.
+pub fn with_strange_line(rng: &mut Rng, form: Form, text: &[u8]) -> Vec<u8> {
+    let any = rng.pick(&[7, 8, 9, 13, 14, 15, 16, 22]);
+    let digits = if rng.percent(60) { 2 * form.other().frame() } else { any };
+    let mut line: Vec<u8> = (0..digits).map(|_| rng.pick(b"0000123ABcd")).collect();
+    line.extend(rng.pick(&[&b"\n"[..], b"\n", b"\n", b"\n", b"\r\n", b"\r\n", b"", b"\r", b"\r\r\n"]));
+    let mut lines: Vec<Vec<u8>> = text.split_inclusive(|&byte| byte == b'\n').map(<[u8]>::to_vec).collect();
+    let sheet_lines = lines.iter().take_while(|line| line.len() > 2).count();
+    let places = if rng.percent(70) { sheet_lines } else { lines.len() };
+    let place = rng.below(places);
+    let replaced = usize::from(rng.percent(50));
+    lines.splice(place..place + replaced, [line]);
+    lines.concat()
+}
+
 /// A text around the limits: so many sheet and script lines, all well shaped.
-pub fn counted(sheet_lines: usize, script_lines: usize) -> Vec<u8> {
-    let sheet = [[0x01, 0, 0, 0]].repeat(sheet_lines).concat();
-    let script = [[0x13, 0, 0, 0]].repeat(script_lines).concat();
-    text(&sheet, &script)
+pub fn counted(form: Form, sheet_lines: usize, script_lines: usize) -> Vec<u8> {
+    let sheet = form.bytes([0x01, 0, 0, 0]).repeat(sheet_lines);
+    let script = [0x13, 0, 0, 0].repeat(script_lines);
+    text(Call { form, sheet: &sheet, script: &script })
+}
+
+/// Sheet lines without the empty line.
+pub fn sheet_lines(form: Form, count: usize) -> Vec<u8> {
+    let mut text = counted(form, count, 0);
+    text.pop();
+    text
 }
