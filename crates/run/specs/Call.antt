@@ -1,4 +1,4 @@
--- One call of `run`: what was lent to it, and what it left and told. Assumes nothing.
+-- One call of `run` or `run_wide`: what was lent to it, and what it left and told. Assumes nothing.
 use Prim.Native.Nat.{ℕ, _≤_}
 use mathlib.Core.Path.{_≡_}
 use mathlib.Core.List.{List}

@@ -1,4 +1,4 @@
--- The certificate, conditions 1 and 2: what every call that meets run's contract does. Each theorem stands under its sentence. Assumes nothing.
+-- The certificate, conditions 1 and 2: what every call that meets run's contract does, over a sheet of either form. Each theorem stands under its sentence. Assumes nothing.
 use Prim.Native.Nat.{ℕ, _+_, _≤_, _<_}
 use native.Mathlib.Omega.{arith}
 use mathlib.Core.Path.{_≡_, sym, ap, _∙_}

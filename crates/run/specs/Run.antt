@@ -1,4 +1,4 @@
--- What a run is refused for, and the contract of `run` for all inputs. Assumes nothing.
+-- What a run is refused for, and the contract of `run` and `run_wide` for all inputs. Assumes nothing.
 use Prim.Native.Nat.{ℕ, _+_, _*_, _%_, _<_}
 use mathlib.Core.Path.{_≡_}
 use mathlib.Core.Bool.{false, not}

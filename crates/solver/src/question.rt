@@ -8,7 +8,7 @@ use judge::forward::ALL;
 use records::Counts;
 use search::Outcome;
 ghost use mathlib.Core.Path.{_≡_};
-ghost use Prim.Native.Nat.{ℕ, _-_, _≤_};
+ghost use Prim.Native.Nat.{_-_, _≤_};
 ghost use lib.ListN.{length};
 ghost use Rattle.sheet.specs.Fields.{Sheet};
 ghost use Rattle.records.specs.Both.{TablesGrown};

@@ -5,7 +5,7 @@ use cube::Cube64;
 use records::Counts;
 use words::w64;
 ghost use mathlib.Core.Path.{_≡_};
-ghost use Prim.Native.Nat.{ℕ, _<_};
+ghost use Prim.Native.Nat.{_<_};
 ghost use Rattle.formula.specs.Why.{why, reduce};
 ghost use Rattle.form.specs.Form as Sizes;
 ghost use Rattle.net.specs.Layout.{netForm, val};

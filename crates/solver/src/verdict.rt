@@ -7,7 +7,7 @@ use records::Counts;
 use records::Found;
 use words::w64;
 ghost use mathlib.Core.Path.{_≡_};
-ghost use Prim.Native.Nat.{ℕ, _<_, _≤_};
+ghost use Prim.Native.Nat.{_<_, _≤_};
 ghost use lib.ListN.{length};
 ghost use Rattle.formula.specs.Ask.{ask};
 ghost use Rattle.form.specs.Form.{recordStart, wordEnd};

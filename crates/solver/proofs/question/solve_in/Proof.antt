@@ -1,5 +1,4 @@
 -- `solver::question::solve_in` meets its contract: the search of the quantifier that the question put behind the frames. Assumes nothing.
-use native.Mathlib.Omega.{arith}
 use borrow.Author.Needs.{needs}
 use mathlib.Core.Path.{ap}
 use lib.ListN.{length}
