@@ -151,7 +151,7 @@ uint32_t hammerloom_run(const uint8_t *sheet, size_t sheet_len, const uint8_t *s
                         uint8_t *answers, size_t answers_len);
 
 /* The same for a wide sheet: it returns 65,536 times the refusal number plus the place, the answers take
- * HAMMERLOOM_WIDE_ANSWERS_LEN(script_len) bytes, and it needs under TO BE MEASURED of stack. */
+ * HAMMERLOOM_WIDE_ANSWERS_LEN(script_len) bytes, and it needs under 2 MiB of stack. */
 uint32_t hammerloom_run_wide(const uint8_t *sheet, size_t sheet_len, const uint8_t *script, size_t script_len,
                              uint8_t *answers, size_t answers_len);
 

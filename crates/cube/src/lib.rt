@@ -1,4 +1,4 @@
-// A cube: the variables that are fixed, and their values. `Cube` is document 01's, of 32 variables, as records hold it; `Cube64` has 64, as the search and a
+// A cube: the variables that are fixed, and their values. `Cube` is document 01's, of 32 variables; `Cube64` has 64, as records, the search and a
 // session use it.
 mod wide;
 

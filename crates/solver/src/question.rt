@@ -135,7 +135,7 @@ fn solve_wide(
 }
 
 // Can the loose variables, those of the last frame that the cube does not fix, be assigned so that it has the target's truth? The net is as before
-// after it. The scratch of each form has a function of its own, so that the stack holds that of one form only.
+// after it. Each form has scratch for its largest sheets.
 pub fn solve(
     net: &mut [u64],
     target: u8,

@@ -1,22 +1,17 @@
+-- `form::rest` meets its contract. Assumes nothing.
 use borrow.Author.Needs.{needs}
 use Rattle.form.proofs.rest.Statement.{statement}
 use Rattle.form.proofs.rest.Tie as tie
-use Rattle.form.proofs.rest.Reads as reads
-use Rattle.form.proofs.rest.Lts as lts
 
--- src/lib.rt:63:25
 enum-told : tie.Need-enum-told
 enum-told c = search needs
 
--- src/lib.rt:64:23
 enum-told-2 : tie.Need-enum-told-2
 enum-told-2 c = search needs
 
--- src/lib.rt:59:1
 returns : tie.Need-returns
 returns c = simp (c .enum-told .given .1)
 
--- src/lib.rt:59:1
 returns-2 : tie.Need-returns-2
 returns-2 c = simp (c .enum-told2 .given .1)
 
