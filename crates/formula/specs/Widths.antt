@@ -4,8 +4,8 @@ use native.Mathlib.Omega.{arith}
 use native.Mathlib.Nat.{add-zero, add-suc}
 use mathlib.Core.Path.{_≡_, refl, sym, ap, _∙_}
 use mathlib.Core.Bool.{Bool, true, false, cond}
-use Rattle.words.specs.Logic.{by-bool, clash, tests}
-use Rattle.words.specs.Word.{bit, bit-high, ext}
+use Rattle.words.specs.Logic.{by-bool, clash}
+use Rattle.words.specs.Word.{bit-high, ext}
 use Rattle.words.specs.Mask.{without, inside-sub, sub-lt}
 use Rattle.formula.specs.Formula.{Formula}
 use Rattle.formula.specs.Ask.{Verdict, Bounded, freeMask, fits, ask, yes, bit-free, freeMask-lt, fits-fit, First, ask-yes, ask-no, ask-first, ask-none}

@@ -1,10 +1,9 @@
 -- Stores of frames: one frame after the other, and past the end of a buffer. Assumes nothing.
 use Prim.Native.Nat.{ℕ, suc, _+_, _*_, _≤_}
 use native.Mathlib.Omega.{arith}
-use native.Mathlib.Numerals.{add-one}
 use mathlib.Core.List.{List, [], _∷_, _++_, append-nil}
 use mathlib.Core.Path.{_≡_, refl, ap, _∙_}
-use lib.ListN.{length, set}
+use lib.ListN.{length}
 use lib.Seq.{sets, set-out}
 use Rattle.words.specs.Stores.{sets-append}
 use Rattle.sheet.specs.declared.Kind.{Kind}
@@ -16,13 +15,6 @@ use Rattle.prenex.specs.SheetLaws.{sheet-length, sheet-append}
 pub sets-out : (vs l : List ℕ) (i : ℕ) → length l ≤ i → sets l i vs ≡ l
 sets-out [] l i h = refl
 sets-out (a ∷ vs) l i h = ap (λ (r : List ℕ). sets r (suc i) vs) (set-out l i a h) ∙ sets-out vs l (suc i) (omega arith)
-
--- four stores, as the code counts
-pub four-stores : (l : List ℕ) (i a b c d : ℕ) → set (set (set (set l i a) (i + 1) b) (i + 2) c) (i + 3) d ≡ sets l i (a ∷ b ∷ c ∷ d ∷ [])
-four-stores l i a b c d =
-    let two : i + 2 ≡ suc (suc i) = omega arith in
-    let three : i + 3 ≡ suc (suc (suc i)) = omega arith in
-    rw (add-one i, two, three)
 
 -- ---- the bytes of frames
 

@@ -1,5 +1,4 @@
 pub mod Layout
-pub mod Stores
 pub mod Table
 pub mod Put
 pub mod Both

@@ -15,7 +15,7 @@ use Rattle.formula.specs.Formula.{Formula}
 use Rattle.formula.specs.Reason.{Explains}
 use Rattle.form.specs.declared.Form.{Form}
 use Rattle.form.specs.Form.{room, recordNumbers, recordStart, wordEnd, start-next, room-fits}
-use Rattle.records.specs.Stores.{sets-before, sets-behind, sets-at}
+use Rattle.words.specs.Stores.{sets-before, sets-behind, sets-at}
 pub use Rattle.records.specs.Layout.{stored}
 use Rattle.records.specs.Layout.{numbers, numberAt, Reads, numbers-length, some-numbers, mask-same, values-same, frame-read, mask-read, values-read}
 use Rattle.records.specs.Table.{Holds, Valid, Grown, Kept, all-matches, grown-refl, grown-holds}

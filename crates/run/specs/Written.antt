@@ -1,11 +1,12 @@
 -- An answer's bytes written into a buffer. Assumes nothing.
-use Prim.Native.Nat.{ℕ, suc, _+_, _*_, _/_, _%_, _^_, _≤_, _<_}
+use Prim.Native.Nat.{ℕ, _+_, _*_, _/_, _%_, _^_, _≤_, _<_}
 use native.Mathlib.Omega.{arith}
 use mathlib.Core.Path.{_≡_, refl, sym, ap, _∙_}
 use mathlib.Core.List.{List, [], _∷_, _++_, append-assoc}
-use lib.ListN.{length, take, drop, set}
+use lib.ListN.{length, take, drop}
 use lib.Seq.{sets, sets-eq, take-at, drop-at, drop-drop}
 use Rattle.words.specs.Bytes.{bytesOf}
+use Rattle.words.specs.Stores.{sets-append}
 use Rattle.form.specs.Form.{answersIn, answerStart}
 use Rattle.form.specs.declared.Form.the-variants.{Narrow, Wide}
 use Rattle.session.specs.Model.{Answer, answerBytes}
@@ -18,23 +19,6 @@ written l at bs = take at l ++ (bs ++ drop (at + length bs) l)
 -- stores in a row
 pub sets-written : (bs l : List ℕ) (at : ℕ) → at + length bs ≤ length l → sets l at bs ≡ written l at bs
 sets-written bs l at h = sets-eq bs l at h ∙ append-assoc (take at l) bs (drop (at + length bs) l)
-
-sets-append : (xs ys l : List ℕ) (at : ℕ) → sets (sets l at xs) (at + length xs) ys ≡ sets l at (xs ++ ys)
-sets-append [] ys l at = let e : at + 0 ≡ at = omega arith in rw e
-sets-append (x ∷ xs) ys l at =
-    let e : at + suc (length xs) ≡ suc at + length xs = omega arith in
-    rw e (sets-append xs ys (set l at x) (suc at))
-
--- as the code stores them
-pub two-sets : (l : List ℕ) (at x₀ x₁ : ℕ) → set (set l at x₀) (at + 1) x₁ ≡ sets l at (x₀ ∷ x₁ ∷ [])
-two-sets l at x₀ x₁ = let e : at + 1 ≡ suc at = omega arith in rw e
-
-pub four-sets : (l : List ℕ) (at x₀ x₁ x₂ x₃ : ℕ) → set (set (set (set l at x₀) (at + 1) x₁) (at + 2) x₂) (at + 3) x₃ ≡ sets l at (x₀ ∷ x₁ ∷ x₂ ∷ x₃ ∷ [])
-four-sets l at x₀ x₁ x₂ x₃ =
-    let e₁ : at + 1 ≡ suc at = omega arith in
-    let e₂ : at + 2 ≡ suc (suc at) = omega arith in
-    let e₃ : at + 3 ≡ suc (suc (suc at)) = omega arith in
-    rw (e₁, e₂, e₃)
 
 -- ---- an answer's bytes, as the code stores them
 
@@ -57,7 +41,7 @@ module _ (a : Answer) (l : List ℕ) (i : ℕ) {l₁ l₂ : List ℕ} where
       → l₂ ≡ written l (answerStart Narrow i) (answerBytes Narrow a)
   unfolding answerBytes
   narrow-written h e g =
-      g ∙ rw e (sets-append (a .number ∷ a .v ∷ []) (bytesOf 4 (a .word)) l (i * 6))
+      g ∙ rw e (sym (sets-append (a .number ∷ a .v ∷ []) (bytesOf 4 (a .word)) l (i * 6)))
       ∙ sets-written (answerBytes Narrow a) l (i * 6) (omega (arith, h, length-four (a .word)))
 
   pub wide-written : {l₃ : List ℕ} {high : ℕ} → i < answersIn Wide (length l) → high ≡ a .word / 2 ^ 32 → l₁ ≡ sets l (i * 10) (a .number ∷ a .v ∷ [])
@@ -66,9 +50,9 @@ module _ (a : Answer) (l : List ℕ) (i : ℕ) {l₁ l₂ : List ℕ} where
   wide-written {l₃} h t e g k =
       let hs = bytesOf 4 (a .word / 2 ^ 32) in
       let n = length-four (a .word / 2 ^ 32) in
-      let p : l₂ ≡ sets l (i * 10) (a .number ∷ a .v ∷ hs) = g ∙ rw (e, t) (sets-append (a .number ∷ a .v ∷ []) hs l (i * 10)) in
+      let p : l₂ ≡ sets l (i * 10) (a .number ∷ a .v ∷ hs) = g ∙ rw (e, t) (sym (sets-append (a .number ∷ a .v ∷ []) hs l (i * 10))) in
       let six : i * 10 + 6 ≡ i * 10 + length (a .number ∷ a .v ∷ hs) = omega (arith, n) in
-      let s : l₃ ≡ sets l (i * 10) ((a .number ∷ a .v ∷ hs) ++ bytesOf 4 (a .word)) = k ∙ rw (p, six) (sets-append (a .number ∷ a .v ∷ hs) (bytesOf 4 (a .word)) l (i * 10)) in
+      let s : l₃ ≡ sets l (i * 10) ((a .number ∷ a .v ∷ hs) ++ bytesOf 4 (a .word)) = k ∙ rw (p, six) (sym (sets-append (a .number ∷ a .v ∷ hs) (bytesOf 4 (a .word)) l (i * 10))) in
       let b : (a .number ∷ a .v ∷ hs) ++ bytesOf 4 (a .word) ≡ answerBytes Wide a = ap (λ (r : List ℕ). a .number ∷ a .v ∷ r) (halves (a .word)) in
       s ∙ ap (sets l (i * 10)) b ∙ sets-written (answerBytes Wide a) l (i * 10) (omega (arith, h, length-answerBytes Wide a))
 

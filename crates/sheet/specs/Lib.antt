@@ -10,3 +10,4 @@ pub mod Accepted
 pub mod Check
 pub mod Pass
 pub mod Cases
+pub mod Places

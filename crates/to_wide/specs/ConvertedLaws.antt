@@ -1,5 +1,5 @@
 -- From what reading and widening give to what is printed: the laws that the program goes by. Assumes nothing.
-use Prim.Native.Nat.{ℕ, zero, suc, _*_, _/_, _≤_, _<_}
+use Prim.Native.Nat.{ℕ, _*_, _/_, _≤_, _<_}
 use native.Mathlib.Nat.{min-eq-left}
 use native.Mathlib.Omega.{arith}
 use mathlib.Core.Bool.{Bool, true, false}
@@ -11,15 +11,14 @@ use borrow.Author.Tests.{eq-eqb, ne-eqb, le-ltb}
 use Rattle.words.specs.Logic.{by-bool, or-false}
 use Rattle.words.specs.Bytes.{bytesOf}
 use Rattle.form.specs.Form.{formOf, frameStart}
-use Rattle.form.specs.declared.Form.{Form}
 use Rattle.form.specs.declared.Form.the-variants.{Narrow, Wide}
 use Rattle.sheet.specs.Refusal as Number
-use Rattle.sheet.specs.Cause.{Cause, Refusal, first, someHolds, some-append, first-earlier, first-later, none-first, first-none}
-use Rattle.sheet.specs.Fields.{Sheet, narrow, frames}
-use Rattle.sheet.specs.Rules.{fieldCauses, lengthCauses, sizeCauses, causesBelow, rootCauses, frameCauses, sheetCauses, sheetRefusal}
+use Rattle.sheet.specs.Cause.{Refusal, first, someHolds, some-append, first-earlier, first-later, none-first, first-none}
+use Rattle.sheet.specs.Fields.{narrow, frames}
+use Rattle.sheet.specs.Rules.{sizeCauses, frameCauses, sheetCauses, sheetRefusal}
 use Rattle.sheet.specs.RuleLaws.{sheet-numbered}
 use Rattle.sheet.specs.Accepted.{none-sized}
-use Rattle.sheet.specs.declared.Fields.{Fields}
+use Rattle.sheet.specs.Places.{sheet-small}
 use Rattle.text.specs.declared.Parsed.{Parsed}
 use Rattle.text.specs.Hex.{hexLines}
 use Rattle.text.specs.Reading.{sheetRoom, scriptRoom, Reading, reading, readInto, writtenOver, Read}
@@ -62,43 +61,11 @@ refusal-prints number place out {out′} {r} room g second =
       in-second = begins [] second refl refl;
     }
 
--- ---- a place is a frame's number
-
--- every cause of the list is told at a place below p
-abbrev Below : ℕ → List Cause → Type 0
-Below p [] = Unit {0}
-Below p (c ∷ cs) = (c .place < p) × Below p cs
-
-below-append : (p : ℕ) (cs ds : List Cause) → Below p cs → Below p ds → Below p (cs ++ ds)
-below-append p [] ds b d = d
-below-append p (c ∷ cs) ds b d = (b .0, below-append p cs ds (b .1) d)
-
-below-first : (p : ℕ) (cs : List Cause) → 0 < p → Below p cs → first cs .place < p
-unfolding first
-below-first p [] h b = h
-below-first p (c ∷ cs) h b = by-bool (c .holds) (λ e. rw e (b .0)) (λ e. rw e (below-first p cs h (b .1)))
-
-field-below : (p : ℕ) (F : Form) (f : Fields) (k : ℕ) (q : ℕ → Bool) → k < p → Below p (fieldCauses F f k q)
-unfolding fieldCauses
-field-below p F f k q h = (h, (h, (h, (h, (h, tt)))))
-
-frames-below : (p : ℕ) (s : Sheet) (k : ℕ) → k ≤ p → Below p (causesBelow s k)
-unfolding causesBelow
-frames-below p s zero h = tt
-frames-below p s (suc k) h = below-append p (causesBelow s k) _ (frames-below p s k (omega arith)) (field-below p _ _ k _ (omega arith))
+-- ---- the sheet's own refusal
 
 module _ (s : List ℕ) where
   few-frames : someHolds (sizeCauses (narrow s)) ≡ false → frames (narrow s) ≤ 200
   few-frames e = none-sized (narrow s) e .most
-
-  pub place-below : sheetRefusal (narrow s) .place < 200
-  unfolding lengthCauses frameCauses
-  place-below = by-bool (someHolds (sizeCauses (narrow s)))
-      (λ e. rw (first-earlier (sizeCauses (narrow s)) (frameCauses (narrow s)) e) (below-first 200 (sizeCauses (narrow s)) (omega arith) (omega arith, (omega arith, tt))))
-      (λ e. rw (first-later (sizeCauses (narrow s)) (frameCauses (narrow s)) e)
-      (below-first 200 (frameCauses (narrow s)) (omega arith)
-      (below-append 200 (causesBelow (narrow s) (frames (narrow s))) (rootCauses (narrow s)) (frames-below 200 (narrow s) (frames (narrow s)) (few-frames e))
-      (omega (arith, few-frames e), tt))))
 
   own-none : someHolds (sheetCauses (narrow s)) ≡ false → someHolds (sizeCauses (narrow s)) ≡ false
   own-none e = or-false (someHolds (sizeCauses (narrow s))) (someHolds (frameCauses (narrow s))) (sym (some-append (sizeCauses (narrow s)) (frameCauses (narrow s))) ∙ e) .0
@@ -122,7 +89,7 @@ module _ {s wide wide′ : List ℕ} {number place size : ℕ} (g : Widens s wid
   place-is = g .place-is ∙ ap (λ (r : Refusal). r .place) (own-refusal s (length wide) room)
 
   pub place-fits : place < 200
-  place-fits = omega (arith, place-is, place-below s)
+  place-fits = omega (arith, place-is, sheet-small (narrow s) .place)
 
   pub sheet-refused : (script : List ℕ) → (number ≡ 0 → ⊥) → refusalOutput number place ≡ convertedSheet s script
   unfolding convertedSheet

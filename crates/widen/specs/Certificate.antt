@@ -1,8 +1,8 @@
 -- What a reader may conclude of a widened sheet. Each theorem stands under its sentence. Assumes nothing.
 use Prim.Native.Nat.{ℕ, zero, suc, _-_, _^_, _≤_, _<_}
 use native.Mathlib.Omega.{arith}
-use mathlib.Core.Path.{_≡_, refl, sym, ap, ap₂, _∙_}
-use mathlib.Core.Bool.{true, false, and-false}
+use mathlib.Core.Path.{_≡_, refl, sym, ap, _∙_}
+use mathlib.Core.Bool.{and-false}
 use mathlib.Core.List.{List, []}
 use lib.ListN.{length}
 use lib.Dec.{ltb}
@@ -13,12 +13,11 @@ use Rattle.formula.specs.Ask.{Bounded}
 use Rattle.formula.specs.Widths.{ask-width, why-width}
 use Rattle.form.specs.Form.{answerStart}
 use Rattle.form.specs.declared.Form.the-variants.{Narrow, Wide}
-use Rattle.sheet.specs.Fields.{narrow, wide, frames, fieldsAt, kind}
+use Rattle.sheet.specs.Fields.{narrow, wide, frames}
 use Rattle.sheet.specs.Frames.{formula}
-use Rattle.sheet.specs.Rules.{last, used, names, binds}
-use Rattle.sheet.specs.Keeps.{Quantifies, Keeps}
+use Rattle.sheet.specs.Rules.{last, used}
+use Rattle.sheet.specs.Keeps.{Keeps}
 use Rattle.sheet.specs.declared.Fields.{Fields}
-use Rattle.sheet.specs.declared.Kind.{Kind}
 use Rattle.session.specs.declared.Entry.{Entry}
 use Rattle.session.specs.Model.{Answer, answerBytes, meaning, enteredMask, enteredValues, Reply, lineRefusal, obeyed, line, lines, lineAt, after, answerAt}
 use Rattle.session.specs.Entries.{Entered, mask-lt, none-entered}
@@ -26,7 +25,6 @@ use Rattle.session.specs.Script.{after-keeps}
 use Rattle.run.specs.Run.{book, before}
 use Rattle.run.specs.Before.{kept-accepted}
 use Rattle.run.specs.Call.{Call, Meets}
-use Rattle.run.specs.Accept.{Proper}
 use Rattle.run.specs.Certificate.{lineBytes, accepted-exactly, one-answer}
 use Rattle.widen.specs.Widen.{widened}
 use Rattle.widen.specs.WidenLaws.{widened-length, widened-frames, same-fields, same-kind, same-formula}

@@ -1,17 +1,16 @@
 -- What the code of `widen` goes by, and what its sheet has: the fields, kinds and formulas of the narrow one. Assumes nothing.
-use Prim.Native.Nat.{ℕ, zero, suc, _+_, _*_, _/_, _≤_, _<_}
+use Prim.Native.Nat.{ℕ, zero, suc, _+_, _*_, _≤_, _<_}
 use native.Mathlib.Omega.{arith}
 use native.Mathlib.Numerals.{add-one}
 use mathlib.Core.Path.{_≡_, refl, sym, ap, _∙_, fun-ext}
 use mathlib.Core.Bool.{true, false}
-use mathlib.Core.List.{List, [], _∷_, _++_}
-use lib.ListN.{length, getD, set, drop, length-append, List·getD-append}
+use mathlib.Core.List.{List, _++_}
+use lib.ListN.{length, getD, drop, length-append, List·getD-append}
 use lib.Seq.{sets, getD-append-add}
-use lib.Dec.{eqb, ltb}
+use lib.Dec.{ltb}
 use borrow.Author.Tests.{lt-ltb, le-ltb}
 use Rattle.words.specs.Logic.{by-bool, tests}
 use Rattle.words.specs.Stores.{sets-append, sets-start}
-use Rattle.formula.specs.Formula.{Formula}
 use Rattle.form.specs.Form.{frameStart}
 use Rattle.form.specs.declared.Form.the-variants.{Narrow, Wide}
 use Rattle.sheet.specs.Refusal as Number
@@ -25,18 +24,6 @@ use Rattle.sheet.specs.declared.Kind.{Kind}
 use Rattle.widen.specs.Widen.{wideBytes, widenedTo, widened, widenCauses, refusal, Widens}
 
 -- ---- the bytes
-
-pub seven-sets : (l : List ℕ) (at x₀ x₁ x₂ x₃ x₄ x₅ x₆ : ℕ)
-    → set (set (set (set (set (set (set l at x₀) (at + 1) x₁) (at + 2) x₂) (at + 3) x₃) (at + 4) x₄) (at + 5) x₅) (at + 6) x₆
-    ≡ sets l at (x₀ ∷ x₁ ∷ x₂ ∷ x₃ ∷ x₄ ∷ x₅ ∷ x₆ ∷ [])
-seven-sets l at x₀ x₁ x₂ x₃ x₄ x₅ x₆ =
-    let e₁ : at + 1 ≡ suc at = omega arith in
-    let e₂ : at + 2 ≡ suc (suc at) = omega arith in
-    let e₃ : at + 3 ≡ suc (suc (suc at)) = omega arith in
-    let e₄ : at + 4 ≡ suc (suc (suc (suc at))) = omega arith in
-    let e₅ : at + 5 ≡ suc (suc (suc (suc (suc at)))) = omega arith in
-    let e₆ : at + 6 ≡ suc (suc (suc (suc (suc (suc at))))) = omega arith in
-    rw (e₁, e₂, e₃, e₄, e₅, e₆)
 
 pub widened-length : (s : List ℕ) (k : ℕ) → length (widenedTo s k) ≡ k * 7
 unfolding widenedTo

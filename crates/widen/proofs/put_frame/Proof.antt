@@ -2,7 +2,7 @@
 use native.Mathlib.Omega.{arith}
 use denote.Ref.{now}
 use lib.ListN.{length-set}
-use Rattle.widen.specs.WidenLaws.{seven-sets}
+use Rattle.words.specs.Stores.{seven-sets}
 use borrow.Author.Needs.{needs}
 use Rattle.widen.proofs.put_frame.Statement.{statement}
 use Rattle.widen.proofs.put_frame.Tie as tie

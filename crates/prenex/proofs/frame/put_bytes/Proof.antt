@@ -2,7 +2,7 @@
 use borrow.Author.Needs.{needs}
 use native.Mathlib.Omega.{arith}
 use lib.ListN.{length-set}
-use Rattle.prenex.specs.StoreLaws.{four-stores}
+use Rattle.words.specs.Stores.{four-sets}
 use Rattle.prenex.proofs.frame.put_bytes.Statement.{statement}
 use Rattle.prenex.proofs.frame.put_bytes.Tie as tie
 
@@ -31,7 +31,7 @@ same-length : tie.Need-same-length
 same-length c = search needs
 
 returns : tie.Need-returns
-returns c = let a = c .args in four-stores (a .out .now) (a .at) (a .code) (a .a) (a .b) (a .c)
+returns c = let a = c .args in four-sets (a .out .now) (a .at) (a .code) (a .a) (a .b) (a .c)
 
 pub put-bytes-spec : {M : Type 1} → statement M
 put-bytes-spec =

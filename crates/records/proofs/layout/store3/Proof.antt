@@ -2,7 +2,7 @@
 use denote.Ref.{now}
 use native.Mathlib.Omega.{arith}
 use lib.ListN.{length-set}
-use Rattle.records.specs.Stores.{three-sets}
+use Rattle.words.specs.Stores.{three-sets}
 use borrow.Author.Needs.{needs}
 use Rattle.records.proofs.layout.store3.Statement.{statement}
 use Rattle.records.proofs.layout.store3.Tie as tie

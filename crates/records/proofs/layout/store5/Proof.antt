@@ -2,7 +2,7 @@
 use denote.Ref.{now}
 use native.Mathlib.Omega.{arith}
 use lib.ListN.{length-set}
-use Rattle.records.specs.Stores.{five-sets}
+use Rattle.words.specs.Stores.{five-sets}
 use borrow.Author.Needs.{needs}
 use Rattle.records.proofs.layout.store5.Statement.{statement}
 use Rattle.records.proofs.layout.store5.Tie as tie

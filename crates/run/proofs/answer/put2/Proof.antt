@@ -2,7 +2,7 @@
 use native.Mathlib.Omega.{arith}
 use denote.Ref.{now}
 use lib.ListN.{length-set}
-use Rattle.run.specs.Written.{two-sets}
+use Rattle.words.specs.Stores.{two-sets}
 use borrow.Author.Needs.{needs}
 use Rattle.run.proofs.answer.put2.Statement.{statement}
 use Rattle.run.proofs.answer.put2.Tie as tie

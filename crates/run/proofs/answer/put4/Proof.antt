@@ -2,7 +2,7 @@
 use native.Mathlib.Omega.{arith}
 use denote.Ref.{now}
 use lib.ListN.{length-set}
-use Rattle.run.specs.Written.{four-sets}
+use Rattle.words.specs.Stores.{four-sets}
 use Rattle.words.specs.Bytes.{bytesOf}
 use borrow.Author.Needs.{needs}
 use Rattle.run.proofs.answer.put4.Statement.{statement}
