@@ -36,7 +36,8 @@ extern "C" {
  * Frames are numbered from 0; the last one is the sheet's formula. A frame names only frames before it, and may name
  * the same one twice. EXISTS and FORALL bind `count` variables (1 to 32 [64]) from `first` on, first + count <= 32
  * [64]. A variable is bound by at most one frame of the sheet. No variable that the sheet binds may be open in the last
- * frame. */
+ * frame. GAUGE is an INPUT whose variable is a gauge: open like any other, but not for ASK to choose. No variable is
+ * named by both INPUT and GAUGE, and no frame binds a gauge, be these frames reached from the last one or not. */
 
 #define HAMMERLOOM_NEVER 0x00, 0, 0, 0                                  /* false */
 #define HAMMERLOOM_INPUT(variable) 0x01, (variable), 0, 0               /* the variable's value */
@@ -45,6 +46,7 @@ extern "C" {
 #define HAMMERLOOM_OR(left, right) 0x04, (left), (right), 0
 #define HAMMERLOOM_EXISTS(frame, first, count) 0x05, (frame), (first), (count)
 #define HAMMERLOOM_FORALL(frame, first, count) 0x06, (frame), (first), (count)
+#define HAMMERLOOM_GAUGE(variable) 0x07, (variable), 0, 0               /* the variable's value */
 
 #define HAMMERLOOM_WIDE_FIELD(number) ((number) >> 8 & 0xFF), ((number)&0xFF) /* 0 to 65,535 */
 #define HAMMERLOOM_WIDE_NEVER 0x00, 0, 0, 0, 0, 0, 0
@@ -56,6 +58,7 @@ extern "C" {
     0x05, HAMMERLOOM_WIDE_FIELD(frame), HAMMERLOOM_WIDE_FIELD(first), HAMMERLOOM_WIDE_FIELD(count)
 #define HAMMERLOOM_WIDE_FORALL(frame, first, count) \
     0x06, HAMMERLOOM_WIDE_FIELD(frame), HAMMERLOOM_WIDE_FIELD(first), HAMMERLOOM_WIDE_FIELD(count)
+#define HAMMERLOOM_WIDE_GAUGE(variable) 0x07, HAMMERLOOM_WIDE_FIELD(variable), 0, 0, 0, 0
 
 /* ---- Script lines of both forms, each four bytes of an initializer ----
  * An entry keeps the desk that made it, which TAKE BACK and READ tell and no question depends on. */
@@ -64,33 +67,38 @@ extern "C" {
 #define HAMMERLOOM_ENTER(variable, value) HAMMERLOOM_ENTER_AT(0, variable, value)    /* where there is but one desk */
 #define HAMMERLOOM_TAKE_BACK 0x11, 0, 0, 0         /* the latest entry; V: its variable; word: 256 * desk + value */
 #define HAMMERLOOM_READ(place) 0x12, (place), 0, 0 /* place 0 is the oldest entry; V and word as for TAKE BACK */
-#define HAMMERLOOM_ASK 0x13, 0, 0, 0               /* V: 1 yes, 0 no; word: on yes the smallest setting, on no 0 */
+#define HAMMERLOOM_ASK 0x13, 0, 0, 0               /* V: 1 yes, 0 no; word: a setting, on no of gauges alone */
 #define HAMMERLOOM_WHY 0x14, 0, 0, 0               /* V: the verdict of ASK; word: the mask of the reason */
 
 /* The parts of the word that tells an entry, of either form. */
 #define HAMMERLOOM_ENTRY_DESK(word) ((unsigned)((uint32_t)(word) >> 8))
 #define HAMMERLOOM_ENTRY_VALUE(word) ((unsigned)((uint32_t)(word)&0xFFu))
 
-/* ASK: can the open variables that are not entered be set so that the sheet is true? The word of a yes is the smallest
- * such setting of all open variables, the entered ones as entered and all other bits 0.
+/* ASK: whatever the gauges are that are open and not entered, can the other open variables that are not entered be set
+ * so that the sheet is true? The word of a yes is the smallest setting of all open variables that makes it true, with
+ * those gauges at 0, the entered ones as entered and all other bits 0. The word of a no is the smallest setting of
+ * those gauges for which it cannot be done, with all other bits 0, those of entered variables too.
  * WHY: variables that force the verdict of ASK whatever the others are, with their values in the word of ASK (yes) or
- * as entered (no); none of them can be left out. */
+ * as entered (no); none of them can be left out. On a sheet with a GAUGE, reached or not, they are entered ones on yes
+ * too, and the others are the other entered ones: these stay entered, with whatever values. */
 
 /* ---- Refusals ---- */
 
-/* Of a whole call, in the result. They are looked for in this order, frame by frame from 6 to 10, and the first one
- * found is told. (Numbers 1 and 29 are a text reader's, 18 and 19 are the QDIMACS reader's, 31 is the converter's, and
- * no call is refused by them.) */
+/* Of a whole call, in the result. They are looked for in the order in which they stand here, frame by frame from 6 to
+ * 10, and the first one found is told. (Numbers 1 and 29 are a text reader's, 18 and 19 are the QDIMACS reader's, 31 is
+ * the converter's, and no call is refused by them.) */
 enum hammerloom_refusal {
     HAMMERLOOM_ACCEPTED = 0,
     HAMMERLOOM_REFUSED_PART_FRAME = 2,    /* sheet empty, or sheet or script not of whole frames; place 0 */
     HAMMERLOOM_REFUSED_SHEET_LENGTH = 3,  /* more than 200 [3,000] sheet frames; place 0, told before the script's 2 */
     HAMMERLOOM_REFUSED_SCRIPT_LENGTH = 4, /* more than 1,000 script lines; place 0 */
     HAMMERLOOM_REFUSED_ANSWERS_ROOM = 5,  /* answers_len under 6 [10] times the script lines; place 0 */
-    HAMMERLOOM_REFUSED_KIND = 6,          /* sheet kind above 06; place: the frame's number, as for those below */
+    HAMMERLOOM_REFUSED_KIND = 6,          /* sheet kind above 07; place: the frame's number, as for those below */
     HAMMERLOOM_REFUSED_SPARE = 7,         /* spare byte not 0 */
     HAMMERLOOM_REFUSED_NAMED_FRAME = 8,   /* named frame not earlier */
     HAMMERLOOM_REFUSED_RANGE = 9,         /* variable above 31 [63], or a quantifier's range empty or past 31 [63] */
+    HAMMERLOOM_REFUSED_TWO_KINDS = 22,    /* INPUT of a variable of an earlier GAUGE, or the other way round */
+    HAMMERLOOM_REFUSED_BOUND_GAUGE = 23,  /* GAUGE of a variable that an earlier frame binds, or the other way round */
     HAMMERLOOM_REFUSED_BOUND_TWICE = 10,  /* variable bound by an earlier frame too */
     HAMMERLOOM_REFUSED_BOUND_OPEN = 11    /* bound variable open in the last frame; place: the last frame's number */
 };

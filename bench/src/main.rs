@@ -146,7 +146,11 @@ fn convert(converter: impl Fn(&Sheet) -> Option<String>) -> io::Result<()> {
         return Err(io::Error::other("the sheet is a wide one"));
     };
     let (bytes, _) = parts.map_err(|refusal| io::Error::other(format!("the text is refused: {refusal:?}")))?;
-    let converted = converter(&accepted(&bytes)?).ok_or_else(|| io::Error::other("the prenex form is too large"))?;
+    let sheet = accepted(&bytes)?;
+    if sheet.gauges & sheet.open != 0 {
+        return Err(io::Error::other("the sheet has open gauges, which ASK does not choose"));
+    }
+    let converted = converter(&sheet).ok_or_else(|| io::Error::other("the prenex form is too large"))?;
     print!("{converted}");
     Ok(())
 }

@@ -1,5 +1,5 @@
 /* Runs a sheet and a script through the interlock, prints the answers in words, then shows refused calls; and the same
- * for a wide sheet. */
+ * for a wide sheet, and for gauges. */
 #include <inttypes.h>
 #include <stdio.h>
 #include <string.h>
@@ -26,6 +26,14 @@ static const uint8_t wide_sheet[] = {
 static const uint8_t wide_script[] = {
     HAMMERLOOM_ASK, HAMMERLOOM_ENTER_AT(7, 63, 0), HAMMERLOOM_WHY, HAMMERLOOM_READ(0), HAMMERLOOM_ENTER(64, 1),
 };
+/* Variable 1, and not the gauge 0; then not the gauge 63. The gauges can always spoil it. */
+static const uint8_t gauge_sheet[] = {
+    HAMMERLOOM_GAUGE(0),
+    HAMMERLOOM_NOT(0),
+    HAMMERLOOM_INPUT(1),
+    HAMMERLOOM_AND(1, 2),
+};
+static const uint8_t wide_gauge_sheet[] = {HAMMERLOOM_WIDE_GAUGE(63), HAMMERLOOM_WIDE_NOT(0)};
 enum { FILL = 0xA5 };
 
 static void print_answer(uint8_t kind, size_t line, unsigned refusal, unsigned v, uint64_t word, int digits) {
@@ -107,8 +115,31 @@ static int wide(void) {
     return 0;
 }
 
+static int gauges(void) {
+    static const uint8_t ask[] = {HAMMERLOOM_ASK};
+    static const uint8_t two_kinds[] = {HAMMERLOOM_GAUGE(0), HAMMERLOOM_INPUT(0)};
+    uint8_t answers[HAMMERLOOM_WIDE_ANSWER_BYTES];
+
+    printf("gauges\n");
+    uint32_t result = hammerloom_run(gauge_sheet, sizeof gauge_sheet, ask, sizeof ask, answers, sizeof answers);
+    if (result != HAMMERLOOM_ACCEPTED)
+        return 1;
+    print_answer(ask[0], 0, HAMMERLOOM_ANSWER_REFUSAL(answers, 0), HAMMERLOOM_ANSWER_V(answers, 0),
+                 HAMMERLOOM_ANSWER_WORD(answers, 0), 8);
+    result = hammerloom_run_wide(wide_gauge_sheet, sizeof wide_gauge_sheet, ask, sizeof ask, answers, sizeof answers);
+    if (result != HAMMERLOOM_ACCEPTED)
+        return 1;
+    print_answer(ask[0], 0, HAMMERLOOM_WIDE_ANSWER_REFUSAL(answers, 0), HAMMERLOOM_WIDE_ANSWER_V(answers, 0),
+                 HAMMERLOOM_WIDE_ANSWER_WORD(answers, 0), 16);
+    result = hammerloom_run(two_kinds, sizeof two_kinds, ask, sizeof ask, answers, sizeof answers);
+    printf("a variable named by INPUT and by GAUGE: refused by %u at frame %u\n", HAMMERLOOM_REFUSAL(result),
+           HAMMERLOOM_PLACE(result));
+    return 0;
+}
+
 int main(void) {
     const int refused = narrow();
+    const int refused_wide = wide();
 
-    return wide() || refused;
+    return gauges() || refused || refused_wide;
 }

@@ -186,7 +186,7 @@ fn says_the_same(question: &Question, sheet: &[u8]) -> bool {
         return false;
     };
     let truth = Truth::of(&sheet);
-    let agrees = |setting: u64| truth.ask(sheet.open, setting).is_some() == question.holds(setting);
+    let agrees = |setting: u64| truth.ask(sheet.open, setting).0 == question.holds(setting);
     sheet.open == question.open() && settings(sheet.open).all(agrees)
 }
 

@@ -1,5 +1,6 @@
 //! The panel's cases with the answers as the rules' own tables print them, so that neither the product nor the evaluator
-//! decides what is right here; the same ones as wide sheets, with the wide limits; and the refusals that no text reaches.
+//! decides what is right here; some with gauges; the same ones as wide sheets, with the wide limits; and the refusals that
+//! no text reaches.
 
 use crate::evaluator::form::{Form, LINE, MOST_LINES};
 use crate::evaluator::Call;
@@ -33,6 +34,29 @@ const ASK: u32 = 0x13000000;
 const WHY: u32 = 0x14000000;
 const L_SCRIPT: &[u32] = &[ASK, WHY, 0x10010000, ASK, WHY, 0x11000000, 0x12000000, 0x10020100];
 const NO: u128 = 0;
+const DEEP_SCRIPT: &[u32] = &[ASK, WHY, 0x10000000, ASK, WHY];
+
+/// Not the gauge 0, in as many frames: "it or any variable 1" for every variable 1, and then NOTs, of an odd number.
+const fn deep<const FRAMES: usize>(form: Form) -> [u64; FRAMES] {
+    let [k, a, b] = match form {
+        Form::Narrow => [24, 16, 8],
+        Form::Wide => [48, 32, 16],
+    };
+    let mut sheet = [0; FRAMES];
+    sheet[0] = 0x07 << k;
+    sheet[1] = 0x01 << k | 1 << a;
+    sheet[3] = 0x04 << k | 1 << b;
+    sheet[4] = 0x06 << k | 3 << a | 1 << b | 1;
+    let mut frame = 5;
+    while frame < FRAMES {
+        sheet[frame] = 0x02 << k | (frame as u64 - 1) << a;
+        frame += 1;
+    }
+    sheet
+}
+
+/// Variable 1, and not the gauge 0.
+const GAUGE: &[u64] = &[0x07000000, 0x02000000, 0x01010000, 0x03010200];
 
 const NARROW: &[Case] = &[
     Case {
@@ -62,7 +86,34 @@ const NARROW: &[Case] = &[
     Case { sheet: &[0x01000000, 0x05000001, 0x06000001], script: &[ASK], outcome: Refused(10, 2) },
     Case { sheet: &[0x01200100], script: &[ASK], outcome: Refused(7, 0) },
     Case { sheet: &[0x01000000], script: &[0x10280200], outcome: Answers(&[0x0D0000000000]) },
-    Case { sheet: &[0x07000000], script: &[ASK], outcome: Refused(6, 0) },
+    Case { sheet: &[0x08000000], script: &[ASK], outcome: Refused(6, 0) },
+    Case {
+        sheet: GAUGE,
+        script: &[ASK, WHY, 0x10010100, ASK, WHY, 0x10000000, ASK, WHY],
+        outcome: Answers(&[
+            0x000000000001,
+            NO,
+            0x000100000000,
+            0x000000000001,
+            NO,
+            0x000200000000,
+            0x000100000002,
+            0x000100000003,
+        ]),
+    },
+    Case { sheet: &[0x07050000, 0x01000000], script: &[ASK, WHY], outcome: Answers(&[0x000100000001, 0x000100000000]) },
+    Case {
+        sheet: &deep::<200>(Form::Narrow),
+        script: DEEP_SCRIPT,
+        outcome: Answers(&[0x000000000001, NO, 0x000100000000, 0x000100000000, 0x000100000001]),
+    },
+    Case { sheet: &[0x071F0000], script: &[0x101F0100, ASK], outcome: Answers(&[0x000100000000, 0x000180000000]) },
+    Case { sheet: &[0x07200000], script: &[ASK], outcome: Refused(9, 0) },
+    Case { sheet: &[0x07000100], script: &[ASK], outcome: Refused(7, 0) },
+    Case { sheet: &[0x01000000, 0x07000000], script: &[ASK], outcome: Refused(22, 1) },
+    Case { sheet: &[0x07000000, 0x01000000], script: &[ASK], outcome: Refused(22, 1) },
+    Case { sheet: &[0x07000000, 0x05000001], script: &[ASK], outcome: Refused(23, 1) },
+    Case { sheet: &[0x01000000, 0x05000101, 0x07010000], script: &[ASK], outcome: Refused(23, 2) },
     Case { sheet: &[0x01000000], script: &[], outcome: Answers(&[]) },
     Case { sheet: &[], script: &[ASK], outcome: Refused(2, 0) },
     Case { sheet: &[0; 200], script: &[ASK; 1000], outcome: Answers(&[NO; 1000]) },
@@ -97,6 +148,8 @@ const WIDE_L_FORALL: &[u64] = &[
 /// INPUT 0.
 const WIDE_INPUT: u64 = 0x01000000000000;
 const YES: u128 = 0x00010000000000000000;
+/// The gauge 63.
+const WIDE_GAUGE: u64 = 0x07003F00000000;
 const WIDE_EXISTS: u64 = 0x05000000000001;
 
 /// Two frames, then NEVERs, then a last frame.
@@ -156,14 +209,31 @@ const WIDE: &[Case] = &[
     Case { sheet: &[0x01004000010000], script: &[ASK], outcome: Refused(7, 0) },
     Case { sheet: &[0x01000000000100], script: &[ASK], outcome: Refused(7, 0) },
     Case { sheet: &[WIDE_INPUT], script: &[0x10480200], outcome: Answers(&[0x0D000000000000000000]) },
-    Case { sheet: &[0x07000000000000], script: &[ASK], outcome: Refused(6, 0) },
+    Case { sheet: &[0x08000000000000], script: &[ASK], outcome: Refused(6, 0) },
+    Case {
+        sheet: &[WIDE_GAUGE, 0x02000000000000],
+        script: &[ASK, WHY, 0x103F0000, ASK, WHY],
+        outcome: Answers(&[0x00008000000000000000, NO, YES, YES, 0x00018000000000000000]),
+    },
+    Case { sheet: &[0x07000500000000, WIDE_INPUT], script: &[WHY], outcome: Answers(&[YES]) },
+    Case {
+        sheet: &deep::<3000>(Form::Wide),
+        script: DEEP_SCRIPT,
+        outcome: Answers(&[0x00000000000000000001, NO, YES, YES, 0x00010000000000000001]),
+    },
+    Case { sheet: &[0x07004000000000], script: &[ASK], outcome: Refused(9, 0) },
+    Case { sheet: &[0x07000000000100], script: &[ASK], outcome: Refused(7, 0) },
+    Case { sheet: &[0x01003F00000000, WIDE_GAUGE], script: &[ASK], outcome: Refused(22, 1) },
+    Case { sheet: &[WIDE_GAUGE, 0x06000000000040], script: &[ASK], outcome: Refused(23, 1) },
     Case { sheet: &[WIDE_INPUT], script: &[], outcome: Answers(&[]) },
     Case { sheet: &[], script: &[ASK], outcome: Refused(2, 0) },
     Case { sheet: &apart::<301>(0, 0, 0x02012B00000000), script: &[ASK], outcome: Answers(&[YES]) },
     Case { sheet: &apart::<301>(0, 0, 0x02012C00000000), script: &[ASK], outcome: Refused(8, 300) },
-    Case { sheet: &apart::<301>(0, 0, 0x07000000000000), script: &[ASK], outcome: Refused(6, 300) },
+    Case { sheet: &apart::<301>(0, 0, 0x08000000000000), script: &[ASK], outcome: Refused(6, 300) },
     Case { sheet: &apart::<301>(0, 0, 0x00000000000001), script: &[ASK], outcome: Refused(7, 300) },
     Case { sheet: &apart::<301>(0, 0, 0x01010000000000), script: &[ASK], outcome: Refused(9, 300) },
+    Case { sheet: &apart::<301>(WIDE_INPUT, 0, 0x07000000000000), script: &[ASK], outcome: Refused(22, 300) },
+    Case { sheet: &apart::<301>(0x07000000000000, 0, WIDE_EXISTS), script: &[ASK], outcome: Refused(23, 300) },
     Case { sheet: &apart::<301>(WIDE_INPUT, WIDE_EXISTS, WIDE_EXISTS), script: &[ASK], outcome: Refused(10, 300) },
     Case { sheet: &apart::<301>(WIDE_INPUT, WIDE_EXISTS, WIDE_INPUT), script: &[ASK], outcome: Refused(11, 300) },
     Case { sheet: &apart::<3000>(0, 0, 0x020BB700000000), script: &[ASK], outcome: Refused(8, 2999) },

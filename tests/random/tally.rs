@@ -2,7 +2,7 @@
 
 use crate::evaluator::form::{Form, LINE};
 use crate::evaluator::question::{self, Cause};
-use crate::evaluator::sheet::Refusal;
+use crate::evaluator::sheet::{self, Refusal};
 use crate::evaluator::text::{self, Reading};
 use crate::evaluator::Call;
 
@@ -47,7 +47,7 @@ impl Tally {
 }
 
 /// The numbers that a call or a line is refused by; a text has two more.
-const REFUSALS: [u8; 17] = [2, 3, 4, 5, 6, 7, 8, 9, 10, 11, 12, 13, 14, 15, 16, 17, 24];
+const REFUSALS: [u8; 19] = [2, 3, 4, 5, 6, 7, 8, 9, 22, 23, 10, 11, 12, 13, 14, 15, 16, 17, 24];
 /// What only a text is refused by.
 const TEXT_REFUSALS: [u8; 2] = [1, 29];
 
@@ -72,13 +72,35 @@ struct MetOfForm {
     text_refusals: [u64; TEXT_REFUSALS.len()],
     /// TAKE BACK and READ of an entry by a desk other than 0.
     desks: [u64; 2],
-    /// ASK no and yes, WHY no and yes, each with word 0 and with another.
-    questions: [u64; 8],
+    questions: Questions,
+    /// Those on sheets with gauges, in the order of the states' list.
+    gauges: [Questions; GAUGES.len()],
     /// Texts with no letter, capitals, lower case, both; with no ending, 0A, 0D 0A, both. Each refused and accepted.
     texts: [[u64; 2]; 8],
-    /// What is above a narrow sheet: the words of ASK and WHY, and the place of a refusal.
-    above: [u64; 3],
+    /// What is above a narrow sheet: the words of ASK and WHY, the word of a no, and the place of a refusal, of one by
+    /// 22, and of one by 23.
+    above: [u64; 6],
 }
+
+/// ASK no and yes, WHY no and yes, each with word 0 and with another.
+type Questions = [u64; QUESTIONS.len()];
+const QUESTIONS: [&str; 8] = [
+    "ASK no, word 0",
+    "ASK no",
+    "ASK yes, word 0",
+    "ASK yes",
+    "WHY no, mask 0",
+    "WHY no",
+    "WHY yes, mask 0",
+    "WHY yes",
+];
+const NO_WITH_WORD: usize = 1;
+
+/// What a sheet's gauges are when a question comes, if it has any.
+const GAUGES: [&str; 3] = ["a gauge not entered", "each open gauge entered", "no gauge open"];
+const NOT_ENTERED: usize = 0;
+const ENTERED: usize = 1;
+const NONE_OPEN: usize = 2;
 
 /// How the text of a question ends, and its name.
 const ENDS: [(Option<Cause>, &str); 6] = [
@@ -99,6 +121,15 @@ const WIDENED: [&str; 5] = [
     "a wide text not widened",
 ];
 
+const ABOVE: [&str; 6] = [
+    "ASK with a word above 32 bits",
+    "WHY with a mask above 32 bits",
+    "ASK no with a word above 32 bits",
+    "a place above 255",
+    "a place above 255 of 22",
+    "a place above 255 of 23",
+];
+
 impl Met {
     fn of(&mut self, form: Form) -> &mut MetOfForm {
         match form {
@@ -112,8 +143,21 @@ impl Met {
         match expected {
             Err(refusal) => met.note_refusal(refusal.number, refusal.place),
             Ok(answers) => {
-                let lines = call.script.chunks_exact(LINE).zip(answers.chunks_exact(call.form.answer()));
-                lines.for_each(|(line, answer)| met.note_answer(line[0], answer));
+                let sheet = sheet::check(call.form, call.sheet).expect("an accepted sheet");
+                let mut entered = 0;
+                for (line, answer) in call.script.chunks_exact(LINE).zip(answers.chunks_exact(call.form.answer())) {
+                    let gauges = match sheet.gauges & sheet.open {
+                        _ if sheet.gauges == 0 => None,
+                        0 => Some(NONE_OPEN),
+                        open => Some(if open & !entered == 0 { ENTERED } else { NOT_ENTERED }),
+                    };
+                    met.note_answer(line[0], answer, gauges);
+                    match (answer[0], line[0]) {
+                        (0, 0x10) => entered |= 1 << line[1],
+                        (0, 0x11) => entered &= !(1 << answer[1]),
+                        _ => {}
+                    }
+                }
             }
         }
     }
@@ -158,8 +202,7 @@ impl Met {
             met.lacks(&mut of_form);
             lacks.found.extend(of_form.found.iter().map(|lack| format!("{form}: {lack}")));
         }
-        let above = ["ASK with a word above 32 bits", "WHY with a mask above 32 bits", "a place above 255"];
-        lacks.among(&above, &self.wide.above);
+        lacks.among(&ABOVE, &self.wide.above);
         lacks.among(&WIDENED, &self.widened);
         lacks.among(&ENDS.map(|(_, name)| name), &self.ends);
         lacks.found
@@ -170,18 +213,26 @@ impl MetOfForm {
     fn note_refusal(&mut self, number: u8, place: u16) {
         let listed = REFUSALS.iter().position(|&listed| listed == number).expect("a listed refusal");
         self.refusals[listed] += 1;
-        self.above[2] += u64::from(place > 255);
+        for (place_above, of) in [(3, true), (4, number == 22), (5, number == 23)] {
+            self.above[place_above] += u64::from(place > 255 && of);
+        }
     }
 
-    /// Notes the answer to a line of this kind.
-    fn note_answer(&mut self, kind: u8, answer: &[u8]) {
+    /// Notes the answer to a line of this kind, given with this state of the sheet's gauges.
+    fn note_answer(&mut self, kind: u8, answer: &[u8], gauges: Option<usize>) {
         let word = answer[2..].iter().fold(0, |word, &byte| word << 8 | u64::from(byte));
         match (answer[0], kind) {
             (0, 0x11 | 0x12) => self.desks[usize::from(kind - 0x11)] += u64::from(word >= 256),
             (0, 0x13 | 0x14) => {
                 let which = usize::from(kind - 0x13);
-                self.questions[4 * which + 2 * usize::from(answer[1]) + usize::from(word != 0)] += 1;
-                self.above[which] += u64::from(word > u32::MAX.into());
+                let question = 4 * which + 2 * usize::from(answer[1]) + usize::from(word != 0);
+                self.questions[question] += 1;
+                if let Some(state) = gauges {
+                    self.gauges[state][question] += 1;
+                }
+                let above = u64::from(word > u32::MAX.into());
+                self.above[which] += above;
+                self.above[2] += u64::from(question == NO_WITH_WORD) * above;
             }
             (0, _) => {}
             (number, _) => self.note_refusal(number, 0),
@@ -206,19 +257,25 @@ impl MetOfForm {
         add(&mut self.text_refusals, &other.text_refusals);
         add(&mut self.desks, &other.desks);
         add(&mut self.questions, &other.questions);
+        add(self.gauges.as_flattened_mut(), other.gauges.as_flattened());
         add(self.texts.as_flattened_mut(), other.texts.as_flattened());
         add(&mut self.above, &other.above);
     }
 
-    /// A no has no word. Texts without a letter or an ending are not asked for.
+    /// A no has a word only if a gauge is not entered. Texts without a letter or an ending are not asked for.
     fn lacks(&self, lacks: &mut Lacks) {
         lacks.among(&REFUSALS.map(|number| format!("refusal {number}")), &self.refusals);
         lacks.among(&TEXT_REFUSALS.map(|number| format!("a text refused by {number}")), &self.text_refusals);
         let of_desk = ["TAKE BACK", "READ"].map(|name| format!("{name} of an entry by a desk other than 0"));
         lacks.among(&of_desk, &self.desks);
-        let names =
-            ["ASK no", "", "ASK yes, word 0", "ASK yes", "WHY no, mask 0", "WHY no", "WHY yes, mask 0", "WHY yes"];
-        lacks.among(&names, &self.questions);
+        lacks.among(&QUESTIONS, &self.questions);
+        for (state, counts) in self.gauges.iter().enumerate() {
+            let mut names = QUESTIONS.map(|name| format!("{name}, with {}", GAUGES[state]));
+            if state != NOT_ENTERED {
+                names[NO_WITH_WORD].clear();
+            }
+            lacks.among(&names, counts);
+        }
         let names = ["", "capitals", "lower case", "both cases", "", "0A", "0D 0A", "both endings"];
         for (name, counts) in names.iter().zip(&self.texts).filter(|(name, _)| !name.is_empty()) {
             lacks.among(&["refused", "accepted"].map(|outcome| format!("a text of {name} {outcome}")), counts);

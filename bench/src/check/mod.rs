@@ -77,7 +77,7 @@ fn converted(name: &str, bytes: &[u8], count: &mut impl FnMut(&str, bool)) {
 
 /// Whether a setting of the open variables makes the last frame true, by truth table.
 pub fn verdict(bytes: &[u8]) -> bool {
-    Truth::of(&checked(bytes).expect("an accepted sheet")).ask(0, 0).is_some()
+    Truth::of(&checked(bytes).expect("an accepted sheet")).ask(0, 0).0
 }
 
 /// A random sheet for the solvers themselves, most of them pinned.

@@ -5,7 +5,11 @@ pub mod Least
 pub mod Ask
 pub mod FreeMask
 pub mod ReasonWord
+pub mod Over
 pub mod Why
+pub mod Gauges
+pub mod GaugeLaws
 pub mod Compute
+pub mod GaugeCompute
 pub mod Example
 pub mod Widths

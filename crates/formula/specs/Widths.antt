@@ -2,13 +2,17 @@
 use Prim.Native.Nat.{ℕ, zero, suc, _+_, _-_, _^_, _≤_, _<_}
 use native.Mathlib.Omega.{arith}
 use native.Mathlib.Nat.{add-zero, add-suc}
-use mathlib.Core.Path.{_≡_, refl, sym, ap, _∙_}
+use mathlib.Core.Path.{_≡_, refl, sym, ap, fun-ext, _∙_}
 use mathlib.Core.Bool.{Bool, true, false, cond}
+use lib.Dec.{eqb}
+use lib.Bits.{bitOr}
 use Rattle.words.specs.Logic.{by-bool, clash}
 use Rattle.words.specs.Word.{bit-high, ext}
 use Rattle.words.specs.Mask.{without, inside-sub, sub-lt}
 use Rattle.formula.specs.Formula.{Formula}
 use Rattle.formula.specs.Ask.{Verdict, Bounded, freeMask, fits, ask, yes, bit-free, freeMask-lt, fits-fit, First, ask-yes, ask-no, ask-first, ask-none}
+use Rattle.formula.specs.Gauges.{unread, ours, possible, assured, fails, verdict, reason}
+use Rattle.formula.specs.GaugeLaws.{bounded-assured}
 use Rattle.formula.specs.Why.{always, reduce, startMask, startWord, why, always-every, every-always, always-fails, fails-always, reduce-skip}
 
 module _ {n m : ℕ} {f : Formula} (B : Bounded n f) (C : Bounded m f) where
@@ -89,3 +93,40 @@ module _ {n m : ℕ} {f : Formula} (B : Bounded n f) (C : Bounded m f) (more : n
   pub why-width : (mask values : ℕ) → mask < 2 ^ n → why m f mask values ≡ why n f mask values
   unfolding why
   why-width mask values l = ap (reasoned m mask values) (ask-width B C mask values) ∙ reasoned-width mask values (ask n f mask values) l
+
+-- ---- with gauges
+
+module _ {n m : ℕ} {f : Formula} (B : Bounded n f) (C : Bounded m f) where
+  unread-width : (g mask : ℕ) → unread m f g mask ≡ unread n f g mask
+  unfolding unread
+  unread-width g mask = rw (freeMask-width B C)
+
+  ours-width : (g mask : ℕ) → ours m f g mask ≡ ours n f g mask
+  unfolding ours
+  ours-width g mask = rw (freeMask-width B C)
+
+  possible-width : (g mask : ℕ) → possible m f g mask ≡ possible n f g mask
+  unfolding possible
+  possible-width g mask = rw (ours-width g mask)
+
+  assured-width : (g mask : ℕ) → assured m f g mask ≡ assured n f g mask
+  unfolding assured
+  assured-width g mask = rw (unread-width g mask, possible-width g mask)
+
+  fails-width : (g mask values : ℕ) → fails m f g mask values ≡ fails n f g mask values
+  unfolding fails
+  fails-width g mask values = fun-ext (λ z. rw (unread-width g mask, possible-width g mask))
+
+  pub verdict-width : (g mask values : ℕ) → verdict m f g mask values ≡ verdict n f g mask values
+  unfolding verdict
+  verdict-width g mask values =
+      rw (assured-width g mask, unread-width g mask, fails-width g mask values, ask-width B C (bitOr mask (unread n f g mask)) values)
+
+module _ {n m : ℕ} {f : Formula} (B : Bounded n f) (C : Bounded m f) (more : n ≤ m) where
+  pub reason-width : (g mask values : ℕ) → mask < 2 ^ n → reason m f g mask values ≡ reason n f g mask values
+  unfolding reason
+  reason-width g mask values l = by-bool (eqb g 0)
+      (λ e. rw e (why-width B C more mask values l))
+      (λ e. rw (e, verdict-width B C g mask values, assured-width B C g mask)
+      (ap (λ (x : ℕ). record { holds = verdict n f g mask values .holds; word = x })
+      (reduce-same (bounded-assured g mask B) (rw (assured-width B C g mask) at (bounded-assured g mask C)) more values (verdict n f g mask values .holds) mask l)))

@@ -38,7 +38,7 @@ pub record Covers (net : List ℕ) (a z : ℕ) : Type 0 where
 -- quantifier below binds any of it
 pub record Posed (net : List ℕ) (a t loose m w : ℕ) (cells : List ℕ) : Type 0 where
   pub ground : Ground net
-  pub here : a < framesOf net
+  pub here : a < framesOf net + 2
   pub target-some : 0 < t
   pub target-low : t < 3
   pub free : Free loose m w

@@ -1,5 +1,5 @@
 -- Backward implication: what a node, and what a variable, must be for node a to have the truth t. Assumes nothing.
-use Prim.Native.Nat.{ℕ, _+_, _*_, _≤_, _<_, _^_}
+use Prim.Native.Nat.{ℕ, _+_, _≤_, _<_, _^_}
 use mathlib.Core.Path.{_≡_}
 use mathlib.Core.Bool.{Bool, true, false}
 use mathlib.Core.List.{List}
@@ -24,7 +24,7 @@ pub record Required (net : List ℕ) (a t m w k v r : ℕ) : Type 0 where
 -- ---- the wants, which stand as cells do
 
 pub record Wanted (net : List ℕ) (a t m w : ℕ) (wants : List ℕ) : Type 0 where
-  pub long : length net ≤ 66 + length wants
+  pub long : length net ≤ 67 + length wants
   pub each : (k : ℕ) → k ≤ a → 0 < valueOf wants k → Required net a t m w k (valueOf wants k) (reasonOf wants k)
 
 -- nothing is wanted of the nodes up to a

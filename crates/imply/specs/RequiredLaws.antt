@@ -14,7 +14,7 @@ use Rattle.words.specs.Word.{bit, bit-or, bit-none, bit-pow}
 use Rattle.words.specs.Mask.{Apart, bits-sub, bits-apart, or-sub, none-sub, one-sub, sub-bits}
 use Rattle.formula.specs.Assignment.{Assignment, On, join, join-left, join-right, join-cases, by-value, differ}
 use Rattle.formula.specs.Formula.{Formula, truth, free}
-use Rattle.net.specs.Over.{over-free, over-misses}
+use Rattle.formula.specs.Over.{over-free, over-misses}
 use Rattle.net.specs.Layout.{formulaAt, HasNode, Ground, Is, val, val-not, val-flip, decides, decides-some, decides-low, f-reads, f-flips, f-joins, f-binds}
 use Rattle.judge.specs.Cells.{HasCell, valueOf, reasonOf, Stored}
 use Rattle.judge.specs.Judge.{Right, Judged}
@@ -170,12 +170,12 @@ module _ {net : List ℕ} {a t m w : ℕ} where
   pub wanted-at : {k v r : ℕ} {wants : List ℕ} → k ≤ a → Wanted net a t m w wants → v ≡ valueOf wants k → r ≡ reasonOf wants k → 0 < v → Required net a t m w k v r
   wanted-at {k} l W p q = rw (p, q) (W .each k l)
 
-  pub wanted-wiped : {wants wants′ : List ℕ} → Wiped a wants wants′ → length net ≤ 66 + length wants → Wanted net a t m w wants′
+  pub wanted-wiped : {wants wants′ : List ℕ} → Wiped a wants wants′ → length net ≤ 67 + length wants → Wanted net a t m w wants′
   wanted-wiped p l = record { long = omega (arith, p .same); each = λ k h z. absurd (omega (arith, p .none k h)) }
 
 -- ---- node k names node i: both scratches have a place for it
 
-pub named-fits : {net cells : List ℕ} {n m w k i v : ℕ} → (Ground net × HasNode net k × Judged net m w cells × (length net ≤ 66 + n)) → i < k → v < 3
+pub named-fits : {net cells : List ℕ} {n m w k i v : ℕ} → (Ground net × HasNode net k × Judged net m w cells × (length net ≤ 67 + n)) → i < k → v < 3
     → HasCell cells i × (2 * i + 1 < n) × (i < 65535) × (v < 3)
 named-fits h l s = (omega (arith, h .1, h .2 .long), omega (arith, h .1, h .3), omega (arith, h .1, h .0 .few), s)
 

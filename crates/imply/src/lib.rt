@@ -11,11 +11,11 @@ use net::node_at;
 use words::w64;
 ghost use mathlib.Core.Path.{_≡_};
 ghost use mathlib.Core.List.{List};
-ghost use Prim.Native.Nat.{ℕ, _+_, _*_, _<_, _≤_, _^_};
+ghost use Prim.Native.Nat.{ℕ, _+_, _<_, _≤_, _^_};
 ghost use lib.Bits.{bitOr};
-ghost use lib.ListN.{length, getD};
+ghost use lib.ListN.{length};
 ghost use Rattle.net.specs.Layout.{HasNode, Ground, Is};
-ghost use Rattle.judge.specs.Cells.{HasCell, valueOf};
+ghost use Rattle.judge.specs.Cells.{HasCell};
 ghost use Rattle.judge.specs.Judge.{Judged};
 ghost use Rattle.imply.specs.Posed.{Posed};
 ghost use Rattle.imply.specs.Required.{Required, Wanted, Passed, Forcing, Valued, Wiped};
@@ -75,7 +75,7 @@ fn pass_gate(
     wants: &mut [u64],
 )
     requires { ⌜ Is (now net) k (node .op) (node .left) (node .right) (node .mask) × (4 ≤ node .op) × (node .op < 6) × (0 < want .value) × (want .value < 3) ⌝ }
-    requires { ⌜ Ground (now net) × HasNode (now net) k × Judged (now net) (cube .mask) (cube .values) (now cells) × (length (now net) ≤ 66 + length (now wants)) ⌝ }
+    requires { ⌜ Ground (now net) × HasNode (now net) k × Judged (now net) (cube .mask) (cube .values) (now cells) × (length (now net) ≤ 67 + length (now wants)) ⌝ }
     ensures { λ _. ⌜ Passed (now (net .entry)) (cube .mask) (cube .values) k (want .value) (want .reason) (now (wants .entry)) (now (wants .exit)) ⌝ }
 {
     let d = node.op - 3;
@@ -110,7 +110,7 @@ fn pass_quantifier(
     wants: &mut [u64],
 )
     requires { ⌜ Is (now net) k (node .op) (node .left) (node .right) (node .mask) × (6 ≤ node .op) × (0 < want .value) × (want .value < 3) ⌝ }
-    requires { ⌜ Ground (now net) × HasNode (now net) k × Judged (now net) (cube .mask) (cube .values) (now cells) × (length (now net) ≤ 66 + length (now wants)) ⌝ }
+    requires { ⌜ Ground (now net) × HasNode (now net) k × Judged (now net) (cube .mask) (cube .values) (now cells) × (length (now net) ≤ 67 + length (now wants)) ⌝ }
     ensures { λ _. ⌜ Passed (now (net .entry)) (cube .mask) (cube .values) k (want .value) (want .reason) (now (wants .entry)) (now (wants .exit)) ⌝ }
 {
     if want.value == decided(node.op) {
@@ -132,7 +132,7 @@ fn pass(
     wants: &mut [u64],
 )
     requires { ⌜ Is (now net) k (node .op) (node .left) (node .right) (node .mask) × (0 < want .value) × (want .value < 3) ⌝ }
-    requires { ⌜ Ground (now net) × HasNode (now net) k × Judged (now net) (cube .mask) (cube .values) (now cells) × (length (now net) ≤ 66 + length (now wants)) ⌝ }
+    requires { ⌜ Ground (now net) × HasNode (now net) k × Judged (now net) (cube .mask) (cube .values) (now cells) × (length (now net) ≤ 67 + length (now wants)) ⌝ }
     ensures { λ _. ⌜ Passed (now (net .entry)) (cube .mask) (cube .values) k (want .value) (want .reason) (now (wants .entry)) (now (wants .exit)) ⌝ }
 {
     let op = node.op;
@@ -211,7 +211,7 @@ fn force_at(
     whys: &mut [u64; 64],
     f: Forced,
 ) -> Forced
-    requires { ⌜ Ground (now net) × HasNode (now net) k × Judged (now net) (cube .mask) (cube .values) (now cells) × (length (now net) ≤ 66 + length (now wants)) ⌝ }
+    requires { ⌜ Ground (now net) × HasNode (now net) k × Judged (now net) (cube .mask) (cube .values) (now cells) × (length (now net) ≤ 67 + length (now wants)) ⌝ }
     ensures { λ r. ⌜ (length (now (wants .exit)) ≡ length (now (wants .entry))) × ((a t : ℕ) → k ≤ a → Wanted (now (net .entry)) a t (cube .mask) (cube .values) (now (wants .entry)) → Forcing (now (net .entry)) a t loose (cube .mask) (cube .values) (f .mask) (f .values) (now (whys .entry)) → Wanted (now (net .entry)) a t (cube .mask) (cube .values) (now (wants .exit)) × Forcing (now (net .entry)) a t loose (cube .mask) (cube .values) (r .mask) (r .values) (now (whys .exit))) ⌝ }
 {
     let want = known_at(&wants[..], k);
@@ -237,7 +237,7 @@ pub fn force(
     wants: &mut [u64],
     whys: &mut [u64; 64],
 ) -> Forced
-    requires { ⌜ Posed (now net) a target loose (cube .mask) (cube .values) (now cells) × (length (now whys) ≡ 64) × (length (now net) ≤ 66 + length (now wants)) ⌝ }
+    requires { ⌜ Posed (now net) a target loose (cube .mask) (cube .values) (now cells) × (length (now whys) ≡ 64) × (length (now net) ≤ 67 + length (now wants)) ⌝ }
     ensures { λ r. ⌜ Forcing (now (net .entry)) a target loose (cube .mask) (cube .values) (r .mask) (r .values) (now (whys .exit)) × (length (now (wants .exit)) ≡ length (now (wants .entry))) ⌝ }
 {
     wipe(wants, a);

@@ -24,7 +24,7 @@ Right net m w k v r = 0 < v → Forced net m w k v r
 
 -- there is a cell for every node of the net, and each is right under the cube m, w
 pub record Judged (net : List ℕ) (m w : ℕ) (cells : List ℕ) : Type 0 where
-  pub long : length net ≤ 66 + length cells
+  pub long : length net ≤ 67 + length cells
   pub each : (k : ℕ) → Right net m w k (valueOf cells k) (reasonOf cells k)
 
 -- ---- each kind of node, from what is known of those that it names

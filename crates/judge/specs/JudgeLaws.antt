@@ -109,7 +109,7 @@ module _ {net : List ℕ} {m w : ℕ} {cells : List ℕ} where
   }
 
 -- nothing is known at the start
-pub judged-none : {net : List ℕ} {m w : ℕ} {cells : List ℕ} (n : ℕ) → cells ≡ replicate n 0 → length net ≤ 66 + n → Judged net m w cells
+pub judged-none : {net : List ℕ} {m w : ℕ} {cells : List ℕ} (n : ℕ) → cells ≡ replicate n 0 → length net ≤ 67 + n → Judged net m w cells
 judged-none n e l = record {
   long = rw (e, length-replicate) l;
   each = λ k y. absurd (omega (arith, y, blank-value n e k));

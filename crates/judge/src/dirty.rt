@@ -1,5 +1,4 @@
 // Sets of nodes: bit k of the words is node k. Which nodes are to be judged again is such a set; it decides how much is judged, and nothing else.
-ghost use mathlib.Core.Path.{_≡_};
 ghost use Prim.Native.Nat.{_+_, _*_, _<_, _≤_};
 ghost use lib.ListN.{length};
 ghost use Rattle.net.specs.Layout.{HasNode, Ground};
@@ -19,7 +18,7 @@ fn mark(marks: &mut [u64], k: usize, a: usize)
 // How many nodes a net has room for.
 fn nodes(net: &[u64]) -> usize
     requires { ⌜ Ground (now net) ⌝ }
-    ensures { λ r. ⌜ 66 + 2 * r ≤ length (now (net .entry)) ⌝ }
+    ensures { λ r. ⌜ 67 + 2 * r ≤ length (now (net .entry)) ⌝ }
 {
     (net.len() - net::node::NODES) / 2
 }
@@ -76,6 +75,17 @@ pub fn mark_readers(net: &[u64], variables: u64, a: usize, marks: &mut [u64])
         let x = w64::highest(left);
         mark_variable(net, x, a, marks);
         left = w64::without(left, w64::one(x));
+    }
+}
+
+// The nodes behind the frames up to a: few, and no link leads to them.
+pub fn mark_behind(net: &[u64], a: usize, marks: &mut [u64])
+    requires { ⌜ Ground (now net) × HasNode (now net) a × (a < 64 * length (now marks)) ⌝ }
+{
+    let mut k = net::frames(net);
+    while k <= a {
+        mark(marks, k, a);
+        k += 1;
     }
 }
 

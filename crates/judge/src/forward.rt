@@ -8,7 +8,7 @@ use net::node_at;
 use words::w64;
 ghost use mathlib.Core.Path.{_≡_};
 ghost use mathlib.Core.List.{List};
-ghost use Prim.Native.Nat.{ℕ, _*_, _<_, _≤_};
+ghost use Prim.Native.Nat.{ℕ, _*_, _<_};
 ghost use lib.ListN.{length};
 ghost use Rattle.net.specs.Layout.{HasNode, Ground};
 ghost use Rattle.judge.specs.Cells.{HasCell, Vacant};
@@ -198,7 +198,7 @@ fn spread(net: &[u64], k: usize, a: usize, set: bool, marks: &mut [u64])
     }
 }
 
-// The same, of nodes that the fresh variables may have touched. The marks are empty.
+// The same, of nodes that the fresh variables may have touched, and of those behind the frames. The marks are empty.
 fn judge_marked(
     net: &[u64],
     a: usize,
@@ -212,6 +212,7 @@ fn judge_marked(
     ensures { λ r. ⌜ Judging (now (net .entry)) (cube .mask) (cube .values) (now (cells .entry)) head (now (cells .exit)) r ⌝ }
 {
     dirty::mark_readers(net, fresh, a, marks);
+    dirty::mark_behind(net, a, marks);
     let mut at = head;
     let mut k = dirty::next(&marks[..], 0, a);
     while k <= a {

@@ -7,10 +7,10 @@ use Rattle.formula.specs.Assignment.{Assignment, join, sweep}
 use Rattle.formula.specs.Formula.{Formula, truth, free}
 use Rattle.formula.specs.ReasonWord.{within-range}
 use Rattle.sheet.specs.declared.Kind.{Kind}
-use Rattle.sheet.specs.declared.Kind.the-variants.{Never, Input, Not, And, Or, Exists, Forall}
+use Rattle.sheet.specs.declared.Kind.the-variants.{Never, Input, Not, And, Or, Exists, Forall, Gauge}
 use Rattle.sheet.specs.Frames.{formulaOf, formula-is}
 use Rattle.sheet.specs.Frames as Sheets
-use Rattle.net.specs.Over.{Beside, over, over-free, over-same, over-range}
+use Rattle.formula.specs.Over.{Beside, over, over-free, over-same, over-range}
 use Rattle.net.specs.Net.{Node, Fixed, Reads, Flips, Joins, Binds, Net, build, meaning, value, frees, Fit, Ordered, meaning-is, upward}
 
 unfoldable pub nodeOfKind : Kind → Node
@@ -21,6 +21,7 @@ nodeOfKind (And a b) = Joins false a b
 nodeOfKind (Or a b) = Joins true a b
 nodeOfKind (Exists a b c) = Binds true (rangeMask b c) a
 nodeOfKind (Forall a b c) = Binds false (rangeMask b c) a
+nodeOfKind (Gauge x) = Reads x
 
 unfoldable pub decoded : (ℕ → Kind) → Net
 decoded κ k = nodeOfKind (κ k)
@@ -37,6 +38,7 @@ decoded-ordered w κ o = record { fit = λ k. go k (κ k) (o .fit k) }
     go k (Or a b) h = h
     go k (Exists a b c) h = h .0
     go k (Forall a b c) h = h .0
+    go k (Gauge x) h = tt
 
 -- over bodies with equal truths
 over-range-same : (d : Bool) (b c : ℕ) (f g : Formula) → ((σ : Assignment) → truth f σ ≡ truth g σ) → (σ : Assignment) → truth (over d (rangeMask b c) f) σ ≡ sweep d b c (truth g) σ
@@ -62,6 +64,7 @@ module _ (w : ℕ) (κ : ℕ → Kind) (o : Sheets.Ordered w κ) where
       go k h σ (Or a b) f = ap₂ (join true) (h a (f .0) σ) (h b (f .1) σ)
       go k h σ (Exists a b c) f = over-range-same true b c (meaning (decoded κ) a) (formulaOf κ a) (h a (f .0)) σ
       go k h σ (Forall a b c) f = over-range-same false b c (meaning (decoded κ) a) (formulaOf κ a) (h a (f .0)) σ
+      go k h σ (Gauge x) f = refl
 
   -- and its free variables
   pub decoded-free : (k x : ℕ) → frees (decoded κ) k x ≡ free (formulaOf κ k) x
@@ -81,3 +84,4 @@ module _ (w : ℕ) (κ : ℕ → Kind) (o : Sheets.Ordered w κ) where
       go k h x (Or a b) f = ap₂ _||_ (h a (f .0) x) (h b (f .1) x)
       go k h x (Exists a b c) f = over-free true (rangeMask b c) (meaning (decoded κ) a) x ∙ rw (h a (f .0) x, within-range b c x)
       go k h x (Forall a b c) f = over-free false (rangeMask b c) (meaning (decoded κ) a) x ∙ rw (h a (f .0) x, within-range b c x)
+      go k h x (Gauge y) f = refl

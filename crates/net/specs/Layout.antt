@@ -1,5 +1,5 @@
--- A net as one list of words, which a run lends to every line: how many frames, the free variables of the last one, the links of `link`, and two words
--- a node. What can be read off the words is the net `packed`. Assumes nothing.
+-- A net as one list of words, which a run lends to every line: how many frames, the free variables of the last one, the gauges, the links of `link`, and two
+-- words a node. What can be read off the words is the net `packed`. Assumes nothing.
 use Prim.Native.Nat.{ℕ, zero, suc, _+_, _-_, _*_, _/_, _%_, _<_, _≤_}
 use native.Mathlib.Omega.{arith}
 use mathlib.Core.Path.{_≡_, refl, sym, _∙_, ap, subst}
@@ -15,7 +15,7 @@ use Rattle.form.specs.Form.{formOf, few-variables}
 use Rattle.form.specs.Form as Sizes
 use Rattle.form.specs.declared.Form.{Form}
 use Rattle.form.specs.declared.Form.the-variants.{Narrow, Wide}
-use Rattle.net.specs.Over.{over}
+use Rattle.formula.specs.Over.{over}
 use Rattle.net.specs.Net.{Node, Fixed, Reads, Flips, Joins, Binds, Net, nodeOf, node-fixed, node-reads, node-flips, node-joins, node-binds, build, meaning, Fit, Ordered, fit-at, at-node, at-reads, at-flips, at-joins, at-binds, Ranged, ranged-more, Clear, Distinct, bounded-net}
 
 -- word 0: how many frames the sheet has; they are the first nodes
@@ -26,16 +26,20 @@ framesOf net = getD net 0 0
 abbrev pub freeOf : List ℕ → ℕ
 freeOf net = getD net 1 0
 
--- the words of node k; those before node 0 are two numbers and a link for each of 64 variables
+-- word 2: the sheet's gauges
+abbrev pub gaugesOf : List ℕ → ℕ
+gaugesOf net = getD net 2 0
+
+-- the words of node k; those before node 0 are three numbers and a link for each of 64 variables
 abbrev pub firstWord : ℕ → ℕ
-firstWord k = 66 + 2 * k
+firstWord k = 67 + 2 * k
 
 abbrev pub secondWord : ℕ → ℕ
-secondWord k = 67 + 2 * k
+secondWord k = 68 + 2 * k
 
--- a net has words for every frame that a sheet of its form may have, and one node more
+-- a net has words for every frame that a sheet of its form may have, and three nodes more, for the quantifiers of a question
 abbrev pub netWords : Form → ℕ
-netWords F = firstWord (Sizes.mostFrames F + 1)
+netWords F = firstWord (Sizes.mostFrames F + 3)
 
 -- so the form of its sheet is told by how many words there are
 unfoldable pub netForm : List ℕ → Form
@@ -52,7 +56,7 @@ form-same net net′ e = rw e
 
 -- there are words for node k
 abbrev pub HasNode : List ℕ → ℕ → Type 0
-HasNode net k = 67 + 2 * k < length net
+HasNode net k = 68 + 2 * k < length net
 
 -- the first word has four bits of op, twelve of left, twelve of right; what stands above them are links. The second is the mask
 unfoldable pub unpack : ℕ → ℕ → Node
@@ -66,13 +70,13 @@ abbrev pub formulaAt : List ℕ → ℕ → Formula
 formulaAt net k = meaning (packed net) k
 
 -- a net that can be searched: nodes name earlier ones, variables are those of a sheet of its form, no variable is bound again below, and behind the frames
--- there is room for one node more. Numbers of nodes fit their bits
+-- there is room for three nodes more. Numbers of nodes fit their bits
 pub record Ground (net : List ℕ) : Type 0 where
   pub ordered : Ordered (packed net)
   pub ranged : (k : ℕ) → Ranged (Sizes.variables (netForm net)) (packed net k)
   pub distinct : Distinct (packed net)
-  pub room : HasNode net (framesOf net)
-  pub few : length net ≤ 8066
+  pub room : HasNode net (framesOf net + 2)
+  pub few : length net ≤ 8067
 
 -- node k as the code reads it
 pub record Is (net : List ℕ) (k op left right mask : ℕ) : Type 0 where

@@ -1,4 +1,3 @@
-pub mod Over
 pub mod Net
 pub mod Clear
 pub mod Decode

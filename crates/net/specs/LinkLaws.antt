@@ -35,7 +35,7 @@ unpack-low x y m e = rw (low-op x, low-left x, low-right x, low-op y, low-left y
 -- ---- links stored
 
 pub linked-refl : (net : List ℕ) → Linked net net
-linked-refl net = record { long = refl; count = refl; opens = refl; nodes = λ k. refl; first-same = refl; second-same = refl }
+linked-refl net = record { long = refl; count = refl; opens = refl; gauged = refl; nodes = λ k. refl; behind = λ i h. refl }
 
 pub linked-trans : {a b c : List ℕ} → Linked a b → Linked b c → Linked a c
 linked-trans {a} {b} {c} L M =
@@ -43,24 +43,24 @@ linked-trans {a} {b} {c} L M =
       long = M .long ∙ L .long;
       count = M .count ∙ L .count;
       opens = M .opens ∙ L .opens;
+      gauged = M .gauged ∙ L .gauged;
       nodes = λ k. M .nodes k ∙ L .nodes k;
-      first-same = (rw (L .count) at (M .first-same)) ∙ L .first-same;
-      second-same = (rw (L .count) at (M .second-same)) ∙ L .second-same;
+      behind = λ i h. M .behind i (omega (arith, L .count)) ∙ L .behind i h;
     }
 
 set-other : {net′ : List ℕ} (net : List ℕ) (i x : ℕ) → net′ ≡ set net i x → (j : ℕ) → (j ≡ i → ⊥) → getD net′ j 0 ≡ getD net j 0
 set-other net i x is j h = ap (λ (l : List ℕ). getD l j 0) is ∙ getD-set-other net i j x 0 h
 
--- one word, before the place behind the frames
-linked-set : {net net′ : List ℕ} (i x : ℕ) → 2 ≤ i → i < firstWord (framesOf net) → net′ ≡ set net i x → ((k : ℕ) → packed net′ k ≡ packed net k) → Linked net net′
+-- one word, before the places behind the frames
+linked-set : {net net′ : List ℕ} (i x : ℕ) → 3 ≤ i → i < firstWord (framesOf net) → net′ ≡ set net i x → ((k : ℕ) → packed net′ k ≡ packed net k) → Linked net net′
 linked-set {net} {net′} i x a b is nodes =
     record {
       long = ap length is ∙ simp length-set;
       count = set-other net i x is 0 (λ q. omega arith);
       opens = set-other net i x is 1 (λ q. omega arith);
+      gauged = set-other net i x is 2 (λ q. omega arith);
       nodes = nodes;
-      first-same = set-other net i x is (firstWord (framesOf net)) (λ q. omega arith);
-      second-same = set-other net i x is (secondWord (framesOf net)) (λ q. omega arith);
+      behind = λ j l. set-other net i x is j (λ q. omega arith);
     }
 
 -- the first word of a node, with the same low part
@@ -81,7 +81,7 @@ linked-relink {net} {net′} k w G l e is =
     here = ap (λ (r : List ℕ). getD r (firstWord k) 0) is ∙ getD-set-same net (firstWord k) w 0 (omega (arith, G .room))
 
 -- the link of a variable
-pub linked-reader : {net net′ : List ℕ} (i x : ℕ) → 2 ≤ i → i < 66 → net′ ≡ set net i x → Linked net net′
+pub linked-reader : {net net′ : List ℕ} (i x : ℕ) → 3 ≤ i → i < 67 → net′ ≡ set net i x → Linked net net′
 unfolding packed
 linked-reader {net} {net′} i x a b is =
     linked-set i x a (omega arith) is
@@ -114,8 +114,7 @@ linked-net {s} {net} {net′} L N =
       count = L .count ∙ N .count;
       opens = L .opens ∙ N .opens;
       each = λ k h. rw (linked-formula L k) (N .each k h);
+      gauged = L .gauged ∙ N .gauged;
       clear = rw (linked-same L, L .opens) (N .clear);
-      first-empty = ap (λ (n : ℕ). getD net′ (firstWord n) 0) (L .count) ∙ L .first-same ∙ N .first-empty;
-      second-empty = ap (λ (n : ℕ). getD net′ (secondWord n) 0) (L .count) ∙ L .second-same ∙ N .second-empty;
-      behind = λ k h. L .nodes k ∙ N .behind k (omega (arith, L .count));
+      empty = λ i h. L .behind i (omega (arith, L .count)) ∙ N .empty i (omega (arith, L .count));
     }

@@ -5,7 +5,7 @@ use mathlib.Core.List.{List}
 use lib.ListN.{length, getD, replicate}
 use Rattle.words.specs.Mask.{rangeMask}
 use Rattle.sheet.specs.declared.Kind.{Kind}
-use Rattle.sheet.specs.declared.Kind.the-variants.{Never, Input, Not, And, Or, Exists, Forall}
+use Rattle.sheet.specs.declared.Kind.the-variants.{Never, Input, Not, And, Or, Exists, Forall, Gauge}
 use Rattle.form.specs.declared.Form.{Form}
 use Rattle.sheet.specs.Fields.{Sheet, frames, mostFrames, variables, kind}
 use Rattle.sheet.specs.Frames as Sheets
@@ -21,6 +21,7 @@ boundOf (And a b) = 0
 boundOf (Or a b) = 0
 boundOf (Exists a b c) = rangeMask b c
 boundOf (Forall a b c) = rangeMask b c
+boundOf (Gauge x) = 0
 
 abbrev pub emptyNet : Form → List ℕ
 emptyNet F = replicate (netWords F) 0

@@ -14,13 +14,13 @@ use Rattle.words.specs.Mask.{rangeMask, apart-bits}
 use Rattle.formula.specs.Ask.{bit-free}
 use Rattle.formula.specs.ReasonWord.{within-range}
 use Rattle.sheet.specs.declared.Kind.{Kind}
-use Rattle.sheet.specs.declared.Kind.the-variants.{Never, Input, Not, And, Or, Exists, Forall}
+use Rattle.sheet.specs.declared.Kind.the-variants.{Never, Input, Not, And, Or, Exists, Forall, Gauge}
 use Rattle.form.specs.Form.{most-place, few-variables}
 use Rattle.form.specs.declared.Form.{Form}
 use Rattle.sheet.specs.Fields.{Sheet, frames, variables, kind}
 use Rattle.sheet.specs.Frames.{kind-past}
 use Rattle.sheet.specs.Frames as Sheets
-use Rattle.sheet.specs.Rules.{binds}
+use Rattle.sheet.specs.Rules.{binds, gauges}
 use Rattle.sheet.specs.Accepted.{ordered-bounded}
 use Rattle.net.specs.Net.{Fixed, Binds, Net, fit-at, replace-here, replace-other, Ranged, Clear, Distinct}
 use Rattle.net.specs.Decode.{nodeOfKind, decoded, decoded-ordered, decoded-value, decoded-free}
@@ -79,6 +79,7 @@ mask-binds (Not a) e v = absurd (let z : _≡_ {A = ℕ} 0 1 = cc in omega arith
 mask-binds (And a b) e v = absurd (let z : _≡_ {A = ℕ} 0 1 = cc in omega arith)
 mask-binds (Or a b) e v = absurd (let z : _≡_ {A = ℕ} 0 1 = cc in omega arith)
 mask-binds (Exists a b c) {d} {m} {x} e v = let z : rangeMask b c ≡ m = cc in ap (λ (w : ℕ). bit w v) (sym z) ∙ within-range b c v
+mask-binds (Gauge y) e v = absurd (let z : _≡_ {A = ℕ} 0 1 = cc in omega arith)
 mask-binds (Forall a b c) {d} {m} {x} e v = let z : rangeMask b c ≡ m = cc in ap (λ (w : ℕ). bit w v) (sym z) ∙ within-range b c v
 
 -- a frame that binds a variable is one of the sheet's
@@ -98,6 +99,7 @@ kind-ranged n k (And a b) w = tt
 kind-ranged n k (Or a b) w = tt
 kind-ranged n k (Exists a b c) w = tt
 kind-ranged n k (Forall a b c) w = tt
+kind-ranged n k (Gauge x) w = w
 
 -- what a checked sheet's rules give its net
 module _ {s : Sheet} {free : ℕ} (C : Checked s free) where
@@ -131,21 +133,28 @@ module _ {s : Sheet} {free : ℕ} (C : Checked s free) where
       }
 
 -- every frame is stored, and the head is set
-module _ {s : Sheet} {net : List ℕ} (L : Loading s net (frames s)) (free : ℕ) where
+module _ {s : Sheet} {net : List ℕ} (L : Loading s net (frames s)) (free gs : ℕ) where
   abbrev headed : List ℕ
-  headed = set (set net 0 (frames s)) 1 free
+  headed = set (set (set net 0 (frames s)) 1 free) 2 gs
 
   headed-long : length headed ≡ netWords (s .form)
-  headed-long = length-set (set net 0 (frames s)) 1 free ∙ length-set net 0 (frames s) ∙ L .long
+  headed-long = length-set (set (set net 0 (frames s)) 1 free) 2 gs ∙ length-set (set net 0 (frames s)) 1 free ∙ length-set net 0 (frames s) ∙ L .long
 
-  headed-other : (i : ℕ) → 2 ≤ i → getD headed i 0 ≡ getD net i 0
-  headed-other i l = getD-set-other (set net 0 (frames s)) 1 i free 0 (λ z. omega arith) ∙ getD-set-other net 0 i (frames s) 0 (λ z. omega arith)
+  headed-other : (i : ℕ) → 3 ≤ i → getD headed i 0 ≡ getD net i 0
+  headed-other i l =
+      getD-set-other (set (set net 0 (frames s)) 1 free) 2 i gs 0 (λ z. omega arith)
+      ∙ getD-set-other (set net 0 (frames s)) 1 i free 0 (λ z. omega arith) ∙ getD-set-other net 0 i (frames s) 0 (λ z. omega arith)
 
   headed-count : getD headed 0 0 ≡ frames s
-  headed-count = getD-set-other (set net 0 (frames s)) 1 0 free 0 (λ z. omega arith) ∙ getD-set-same net 0 (frames s) 0 (omega (arith, L .long))
+  headed-count = getD-set-other (set (set net 0 (frames s)) 1 free) 2 0 gs 0 (λ z. omega arith) ∙ getD-set-other (set net 0 (frames s)) 1 0 free 0 (λ z. omega arith) ∙ getD-set-same net 0 (frames s) 0 (omega (arith, L .long))
 
   headed-opens : getD headed 1 0 ≡ free
-  headed-opens = getD-set-same (set net 0 (frames s)) 1 free 0 (omega (arith, L .long, length-set net 0 (frames s)))
+  headed-opens =
+      getD-set-other (set (set net 0 (frames s)) 1 free) 2 1 gs 0 (λ z. omega arith)
+      ∙ getD-set-same (set net 0 (frames s)) 1 free 0 (omega (arith, L .long, length-set net 0 (frames s)))
+
+  headed-gauged : getD headed 2 0 ≡ gs
+  headed-gauged = getD-set-same (set (set net 0 (frames s)) 1 free) 2 gs 0 (omega (arith, L .long, length-set (set net 0 (frames s)) 1 free, length-set net 0 (frames s)))
 
   headed-node : (k : ℕ) → packed headed k ≡ packed net k
   unfolding packed
@@ -162,12 +171,12 @@ module _ {s : Sheet} {net : List ℕ} (L : Loading s net (frames s)) (free : ℕ
       (λ t. headed-past k (omega tests) ∙ ap nodeOfKind (sym (kind-past s k (omega tests)))))
 
 -- that is the sheet's net
-pub loaded-net : {s : Sheet} {net net′ : List ℕ} {n free : ℕ} → Checked s free → Loading s net (frames s) → n ≡ frames s → net′ ≡ set (set net 0 n) 1 free → NetOf s net′
-loaded-net {s} {net} {net′} {n} {free} C L e h =
-    let is = headed-is L free in
-    let count = headed-count L free in
-    let opens = headed-opens L free in
-    let long = headed-long L free in
+pub loaded-net : {s : Sheet} {net net′ : List ℕ} {n free gs : ℕ} → Checked s free → gs ≡ gauges s → Loading s net (frames s) → n ≡ frames s → net′ ≡ set (set (set net 0 n) 1 free) 2 gs → NetOf s net′
+loaded-net {s} {net} {net′} {n} {free} {gs} C q L e h =
+    let is = headed-is L free gs in
+    let count = headed-count L free gs in
+    let opens = headed-opens L free gs in
+    let long = headed-long L free gs in
     rw (h, e) (record {
       ground = record {
         ordered = rw is (decoded-ordered (variables s) (kind s) (C .ordered));
@@ -179,9 +188,8 @@ loaded-net {s} {net} {net′} {n} {free} C L e h =
       long = long;
       count = count;
       opens = opens ∙ C .opens;
+      gauged = headed-gauged L free gs ∙ q;
       each = λ k l. rw is (record { same = λ σ. decoded-value (variables s) (kind s) (C .ordered) k σ; reads = λ x. decoded-free (variables s) (kind s) (C .ordered) k x });
       clear = rw (is, opens) (decoded-clear C);
-      first-empty = rw count (headed-other L free (firstWord (frames s)) (omega arith) ∙ L .behind (firstWord (frames s)) (omega arith));
-      second-empty = rw count (headed-other L free (secondWord (frames s)) (omega arith) ∙ L .behind (secondWord (frames s)) (omega arith));
-      behind = λ k l. headed-past L free k (omega (arith, count));
+      empty = λ i l. headed-other L free gs i (omega arith) ∙ L .behind i (omega (arith, count));
     })

@@ -2,17 +2,16 @@
 use Prim.Native.Nat.{ℕ, _<_, _≤_}
 use native.Mathlib.Omega.{arith}
 use mathlib.Core.Path.{_≡_, refl, sym, _∙_, ap, ap₂}
-use mathlib.Core.Bool.{Bool, true, false, not, _&&_, _||_}
+use mathlib.Core.Bool.{Bool, true, false, not, _||_}
 use lib.Bits.{bitOr}
 use lib.Dec.{eqb}
 use borrow.Author.Tests.{eqb-true}
 use Rattle.words.specs.Logic.{by-bool}
-use Rattle.words.specs.Word.{bit}
 use Rattle.formula.specs.Assignment.{Assignment, join}
 use Rattle.formula.specs.Formula.{Formula, truth, free}
-use Rattle.net.specs.Over.{over, over-free, over-same, over-over, over-over-free}
+use Rattle.formula.specs.Over.{over-over, over-over-free}
 use Rattle.net.specs.Net.{Node, Fixed, Reads, Flips, Joins, Binds, Net, build, meaning, Fit, Ordered, meaning-is, fit-at, at-node, at-binds, replace, replace-here, replace-other, ordered-replace, upward}
-use Rattle.net.specs.Stands.{Stands, stands-refl, stands-trans}
+use Rattle.net.specs.Stands.{Stands, over-stands, stands-refl, stands-trans}
 
 -- what is built of formulas that stand for each other
 build-stands : (f g : ℕ → Formula) (k : ℕ) (u : Node) → Fit k u → ((a : ℕ) → a < k → Stands (f a) (g a)) → Stands (build f u) (build g u)
@@ -25,10 +24,7 @@ build-stands f g k (Joins d a b) w e = record {
   same = λ σ. ap₂ (join d) (e a (w .0) .same σ) (e b (w .1) .same σ);
   reads = λ x. ap₂ _||_ (e a (w .0) .reads x) (e b (w .1) .reads x);
 }
-build-stands f g k (Binds d m a) w e = record {
-  same = λ σ. over-same d m m (g a) (f a) σ σ (λ α b t. (α, b, sym (e a w .same α) ∙ t)) (λ β b t. (β, b, e a w .same β ∙ t));
-  reads = λ x. over-free d m (g a) x ∙ ap (λ (y : Bool). y && not (bit m x)) (e a w .reads x) ∙ sym (over-free d m (f a) x);
-}
+build-stands f g k (Binds d m a) w e = over-stands d m (e a w)
 
 -- node g is replaced by u, which stands for it in the old net
 pub replace-stands : (N : Net) (g : ℕ) (u : Node) → Ordered N → Fit g u → Stands (meaning N g) (build (meaning N) u) → (k : ℕ) → Stands (meaning N k) (meaning (replace N g u) k)

@@ -4,19 +4,17 @@ use native.Mathlib.Omega.{arith}
 use mathlib.Core.Path.{_≡_, _∙_, ap}
 use mathlib.Core.Bool.{Bool}
 use mathlib.Core.List.{List}
-use lib.ListN.{getD}
 use lib.Bits.{bitOr}
 use lib.Dec.{eqb}
-use borrow.Author.Tests.{ne-eqb}
 use Rattle.words.specs.Mask.{or-apart}
 use Rattle.form.specs.Form as Sizes
 use Rattle.sheet.specs.Fields.{Sheet}
-use Rattle.net.specs.Net.{Node, Binds, Net, nodeOf, node-binds, replace, replace-other, fit-at, Ordered, Clear, Distinct}
+use Rattle.net.specs.Net.{Node, Binds, Net, nodeOf, node-binds, replace, fit-at, Ordered, Clear, Distinct}
 use Rattle.net.specs.Clear.{clear-less, clear-or, clear-replace, distinct-replace, ranged-replace}
 use Rattle.net.specs.Stands.{stands-trans}
 use Rattle.net.specs.Nest.{nest-stands, nest-ordered}
-use Rattle.net.specs.Layout.{netForm, form-same, framesOf, firstWord, secondWord, unpack, packed, Ground, Is, is-binds}
-use Rattle.net.specs.StoreLaws.{Stored, stored-long, stored-other, stored-count, stored-opens, stored-net}
+use Rattle.net.specs.Layout.{netForm, form-same, framesOf, unpack, packed, Ground, Is, is-binds}
+use Rattle.net.specs.StoreLaws.{Stored, stored-long, stored-other, stored-count, stored-opens, stored-gauged, stored-net}
 use Rattle.net.specs.Sheet.{NetOf}
 
 -- ---- in the net
@@ -66,10 +64,7 @@ module _ {s : Sheet} {net net′ : List ℕ} {k op left right mask op′ left′
         count = stored-count S ∙ N .count;
         opens = stored-opens S ∙ N .opens;
         each = λ j i. rw nested (stands-trans (N .each j i) (nest-stands (N .ground .ordered) outer inner j));
+        gauged = stored-gauged S ∙ N .gauged;
         clear = rw (nested, stored-opens S) (nest-clear (N .ground .ordered) outer inner (N .clear));
-        first-empty = ap (λ (n : ℕ). getD net′ (firstWord n) 0) (stored-count S)
-            ∙ stored-other S (firstWord (framesOf net)) (λ e. omega arith) (λ e. omega arith) ∙ N .first-empty;
-        second-empty = ap (λ (n : ℕ). getD net′ (secondWord n) 0) (stored-count S)
-            ∙ stored-other S (secondWord (framesOf net)) (λ e. omega arith) (λ e. omega arith) ∙ N .second-empty;
-        behind = λ j i. rw nested (replace-other (packed net) k both j (ne-eqb j k (λ e. omega (arith, stored-count S))) ∙ N .behind j (omega (arith, stored-count S)));
+        empty = λ i h. stored-other S i (λ e. omega (arith, stored-count S)) (λ e. omega (arith, stored-count S)) ∙ N .empty i (omega (arith, stored-count S));
       }

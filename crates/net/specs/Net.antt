@@ -12,7 +12,7 @@ use Rattle.formula.specs.Assignment.{Assignment, join, On}
 use Rattle.formula.specs.Formula.{Formula, never, input, neg, gate, truth, free, coincide}
 use Rattle.formula.specs.Ask.{Bounded}
 use Rattle.formula.specs.FreeMask.{bounded-never, bounded-input, bounded-neg, bounded-gate}
-use Rattle.net.specs.Over.{over, over-free}
+use Rattle.formula.specs.Over.{over, over-free, bounded-over}
 
 -- A gate and a quantifier carry the truth that decides them, as in formulas: `Joins false` is AND, `Binds true` is EXISTS.
 pub data Node : Type 0 where
@@ -213,9 +213,6 @@ pub record Clear (N : Net) (a z : ℕ) : Type 0 where
 -- a quantifier's variables are bound by no other one in its body
 pub record Distinct (N : Net) : Type 0 where
   pub below : (k : ℕ) {d : Bool} {m x : ℕ} → N k ≡ Binds d m x → Clear N x m
-
-pub bounded-over : {n : ℕ} {f : Formula} (d : Bool) (m : ℕ) → Bounded n f → Bounded n (over d m f)
-bounded-over {n} {f} d m B = record { below = λ k e. B .below k (and-both (free f k) (not (bit m k)) (sym (over-free d m f k) ∙ e) .0) }
 
 pub bounded-net : (n : ℕ) (N : Net) → Ordered N → ((k : ℕ) → Ranged n (N k)) → (k : ℕ) → Bounded n (meaning N k)
 unfolding build

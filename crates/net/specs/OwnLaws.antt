@@ -1,124 +1,187 @@
--- A question's quantifier behind the frames: the net can be searched, its frames stand for what they stood for, and forgetting gives the net back. Assumes nothing.
-use Prim.Native.Nat.{ℕ, _-_, _<_, _≤_}
+-- A question's quantifiers behind the frames: the net can be searched, its frames stand for what they stood for, and forgetting gives the net back. Assumes nothing.
+use Prim.Native.Nat.{ℕ, _+_, _-_, _<_, _≤_}
 use native.Mathlib.Omega.{arith}
-use mathlib.Core.Path.{_≡_, sym, _∙_, ap, ap₂}
+use mathlib.Core.Path.{_≡_, refl, sym, _∙_, ap, ap₂}
 use mathlib.Core.Bool.{Bool, false}
+use mathlib.Core.Logic.{_⊎_, inl, inr}
 use mathlib.Core.List.{List}
 use lib.ListN.{length, getD, set}
-use lib.Seq.{set-set, set-comm, set-getD}
+use lib.Bits.{bitOr}
+use lib.Seq.{ext-getD}
 use lib.Dec.{eqb, ltb}
 use borrow.Author.Tests.{ne-eqb, eq-eqb}
 use Rattle.words.specs.Logic.{by-bool, tests}
-use Rattle.words.specs.Mask.{Sub, Apart}
+use Rattle.words.specs.Mask.{Sub, Apart, apart-sub, apart-sym, sub-or-left, sub-or-right}
+use Rattle.formula.specs.Over.{over}
 use Rattle.form.specs.Form as Sizes
 use Rattle.sheet.specs.Fields.{Sheet}
-use Rattle.net.specs.Net.{Node, Fixed, Binds, nodeOf, node-fixed, node-reads, node-flips, node-joins, node-binds, replace, replace-here, replace-other, fit-at, meaning-agree, ordered-replace, Clear, Distinct}
+use Rattle.net.specs.Net.{Node, Fixed, Binds, nodeOf, node-fixed, node-reads, node-flips, node-joins, node-binds, replace, replace-here, replace-other, fit-at, at-binds, meaning-agree, ordered-replace, Clear, Distinct}
 use Rattle.net.specs.Clear.{clear-sub, clear-replace, distinct-replace, ranged-replace}
-use Rattle.net.specs.Layout.{netForm, form-same, framesOf, freeOf, firstWord, secondWord, unpack, packed, formulaAt, Ground, Is, val, decides}
-use Rattle.net.specs.StoreLaws.{Stored, stored-long, stored-count, stored-opens, stored-net}
+use Rattle.net.specs.Layout.{netForm, form-same, framesOf, freeOf, firstWord, secondWord, HasNode, unpack, packed, formulaAt, Ground, Is, val, decides}
+use Rattle.net.specs.StoreLaws.{Stored, stored-long, stored-other, stored-count, stored-first, stored-second, stored-net, none-behind}
 use Rattle.net.specs.Sheet.{NetOf}
-use Rattle.net.specs.Own.{Chosen, Forgotten}
+use Rattle.net.specs.Own.{Chosen, Forgotten, Stacked}
 
 -- ---- as the code has them
 
 -- 8 - d is the op of the quantifier that d decides
-pub put-chosen : {net net′ : List ℕ} {n d mask w : ℕ} → n ≡ framesOf net → 0 < framesOf net → 0 < d → d < 3
-    → unpack w mask ≡ nodeOf (8 - d) (n - 1) 0 mask → Stored net n w mask net′ → Chosen net d mask net′
+pub put-chosen : {net net′ : List ℕ} {i at d mask w : ℕ} → at ≡ framesOf net + i → 0 < d → d < 3
+    → unpack w mask ≡ nodeOf (8 - d) (at - 1) 0 mask → Stored net at w mask net′ → Chosen net i d mask net′
 unfolding val
-put-chosen {net} {net′} {n} {d} {mask} {w} e some a b W S =
+put-chosen {net} {net′} {i} {at} {d} {mask} {w} e a b W S =
     record {
       word = w;
       is = rw (← e) (S .is);
       node = W
-          ∙ node-binds (8 - d) (n - 1) 0 mask (omega arith)
+          ∙ node-binds (8 - d) (at - 1) 0 mask (omega arith)
           ∙ ap₂ (λ (t : Bool) (x : ℕ). Binds t mask x)
           (by-bool (eqb d 2) (λ q. rw q (eq-eqb (8 - d) 6 (omega tests))) (λ q. rw q (ne-eqb (8 - d) 6 (λ z. omega tests))))
           (ap (λ (x : ℕ). x - 1) e);
-      some = some;
     }
 
-pub put-forgotten : {net net′ : List ℕ} {n : ℕ} → n ≡ framesOf net → Stored net n 0 0 net′ → Forgotten net net′
-put-forgotten e S = record { is = rw (← e) (S .is) }
+-- a place emptied
+stored-zero : {net net′ : List ℕ} {k : ℕ} → Stored net k 0 0 net′ → HasNode net k
+    → (i : ℕ) → (eqb i (firstWord k) ≡ false → eqb i (secondWord k) ≡ false → getD net i 0 ≡ 0) → getD net′ i 0 ≡ 0
+stored-zero {net} {net′} {k} S h i f = by-bool (eqb i (firstWord k))
+    (λ p. let e : i ≡ firstWord k = omega tests in rw e (stored-first S h))
+    (λ p. by-bool (eqb i (secondWord k))
+    (λ q. let e : i ≡ secondWord k = omega tests in rw e (stored-second S h))
+    (λ q. stored-other S i (λ e. omega tests) (λ e. omega tests) ∙ f p q))
 
--- ---- the net with a question's quantifier
+pub put-forgotten : {net n₁ n₂ n₃ : List ℕ} {n : ℕ} → Ground net → n ≡ framesOf net
+    → Stored net n 0 0 n₁ → Stored n₁ (n + 1) 0 0 n₂ → Stored n₂ (n + 2) 0 0 n₃ → Forgotten net n₃
+put-forgotten {net} {n₁} {n₂} {n₃} {n} G e S T U =
+    record {
+      long = stored-long U ∙ stored-long T ∙ stored-long S;
+      emptied = λ i a b. by-bool (ltb i (firstWord (n + 1)))
+          (λ p. stored-other U i (λ z. omega tests) (λ z. omega tests) ∙ stored-other T i (λ z. omega tests) (λ z. omega tests)
+          ∙ stored-zero S (omega (arith, G .room)) i (λ x y. absurd (omega tests)))
+          (λ p. by-bool (ltb i (firstWord (n + 2)))
+          (λ q. stored-other U i (λ z. omega tests) (λ z. omega tests)
+          ∙ stored-zero T (omega (arith, G .room, stored-long S)) i (λ x y. absurd (omega tests)))
+          (λ q. stored-zero U (omega (arith, G .room, stored-long T, stored-long S)) i (λ x y. absurd (omega tests))));
+      others = λ i h. other i h;
+    }
+  where
+    other : (i : ℕ) → (i < firstWord (framesOf net) ⊎ firstWord (framesOf net + 3) ≤ i) → getD n₃ i 0 ≡ getD net i 0
+    other i (inl h) =
+        stored-other U i (λ z. omega arith) (λ z. omega arith) ∙ stored-other T i (λ z. omega arith) (λ z. omega arith) ∙ stored-other S i (λ z. omega arith) (λ z. omega arith)
+    other i (inr h) =
+        stored-other U i (λ z. omega arith) (λ z. omega arith) ∙ stored-other T i (λ z. omega arith) (λ z. omega arith) ∙ stored-other S i (λ z. omega arith) (λ z. omega arith)
+
+-- ---- none yet
 
 -- a quantifier is no constant
 fixed-binds : {d : Bool} {m x : ℕ} → Fixed false ≡ Binds d m x → ⊥
 fixed-binds e = let z : _≡_ {A = ℕ} 0 1 = cc in omega arith
 
+net-behind : {s : Sheet} {net : List ℕ} → NetOf s net → (k : ℕ) → framesOf net ≤ k → packed net k ≡ Fixed false
+net-behind {s} {net} N = none-behind net (framesOf net) (N .empty)
+
 -- no node at all binds a free variable
-pub net-clear : {s : Sheet} {net : List ℕ} → NetOf s net → (a : ℕ) → Clear (packed net) a (freeOf net)
+net-clear : {s : Sheet} {net : List ℕ} → NetOf s net → (a : ℕ) → Clear (packed net) a (freeOf net)
 net-clear {s} {net} N a =
     record {
       apart = λ j l e. by-bool (ltb j (framesOf net))
           (λ i. N .clear .apart j (omega (tests, N .count)) e)
-          (λ i. absurd (fixed-binds (sym (N .behind j (omega tests)) ∙ e)));
+          (λ i. absurd (fixed-binds (sym (net-behind N j (omega tests)) ∙ e)));
     }
 
-module _ {s : Sheet} {net : List ℕ} {d mask : ℕ} {net′ : List ℕ} (N : NetOf s net) (S : Sub mask (freeOf net)) (C : Chosen net d mask net′) where
-  stored : Stored net (framesOf net) (C .word) mask net′
+pub stacked-none : {s : Sheet} {net : List ℕ} → NetOf s net → 0 < framesOf net → Stacked s net net 0 0
+stacked-none {s} {net} N h = record {
+  net-of = N;
+  some = h;
+  within = omega arith;
+  ground = N .ground;
+  frames-same = refl;
+  long = refl;
+  same = λ k l. refl;
+  clear = λ i a k. clear-sub (net-clear N k) i;
+  behind = λ k l. net-behind N k (omega arith);
+  others = λ i h. refl;
+}
+
+-- ---- one more
+
+module _ {s : Sheet} {base net : List ℕ} {i used d mask : ℕ} {net′ : List ℕ} (S : Stacked s base net i used) (l : i < 3)
+    (inside : Sub mask (freeOf base)) (fresh : Apart used mask) (C : Chosen net i d mask net′) where
+  abbrev place : ℕ
+  place = framesOf net + i
+
+  stored : Stored net place (C .word) mask net′
   stored = record { is = C .is }
 
   abbrev own : Node
-  own = Binds (val d) mask (framesOf net - 1)
+  own = Binds (val d) mask (place - 1)
 
-  chosen-net : packed net′ ≡ replace (packed net) (framesOf net) own
-  chosen-net = stored-net stored (N .ground .room) ∙ ap (replace (packed net) (framesOf net)) (C .node)
+  some-frames : 0 < framesOf net
+  some-frames = omega (arith, S .some, S .frames-same)
 
-  pub chosen-count : framesOf net′ ≡ framesOf net
+  chosen-net : packed net′ ≡ replace (packed net) place own
+  chosen-net = stored-net stored (omega (arith, S .ground .room)) ∙ ap (replace (packed net) place) (C .node)
+
+  chosen-count : framesOf net′ ≡ framesOf net
   chosen-count = stored-count stored
-
-  pub chosen-opens : freeOf net′ ≡ freeOf net
-  chosen-opens = stored-opens stored
-
-  pub chosen-long : length net′ ≡ length net
-  chosen-long = stored-long stored
 
   chosen-distinct : Distinct (packed net′)
   chosen-distinct =
       rw chosen-net
-      (distinct-replace (val d) (framesOf net - 1) (N .ground .distinct)
-      (clear-replace (val d) (framesOf net - 1) (clear-sub (net-clear N (framesOf net - 1)) S) (λ l. absurd (omega (arith, C .some))))
-      (λ i e n y t l. absurd (fixed-binds (sym (N .behind i (omega (arith, fit-at (N .ground .ordered) t))) ∙ t))))
+      (distinct-replace (val d) (place - 1) (S .ground .distinct)
+      (clear-replace (val d) (place - 1) (S .clear inside fresh (place - 1)) (λ h. absurd (omega (arith, some-frames))))
+      (λ j e n y t h. absurd (fixed-binds (sym (S .behind j (omega (arith, S .frames-same, fit-at (S .ground .ordered) t))) ∙ t))))
 
   pub chosen-ground : Ground net′
   chosen-ground =
       record {
-        ordered = rw chosen-net (ordered-replace (packed net) (framesOf net) own (N .ground .ordered) (omega (arith, C .some)));
-        ranged = λ j. rw (chosen-net, form-same net net′ chosen-long) (ranged-replace (Sizes.variables (netForm net)) (packed net) (framesOf net) own (N .ground .ranged) tt j);
+        ordered = rw chosen-net (ordered-replace (packed net) place own (S .ground .ordered) (omega (arith, some-frames)));
+        ranged = λ j. rw (chosen-net, form-same net net′ (stored-long stored)) (ranged-replace (Sizes.variables (netForm net)) (packed net) place own (S .ground .ranged) tt j);
         distinct = chosen-distinct;
-        room = omega (arith, N .ground .room, chosen-long, chosen-count);
-        few = omega (arith, N .ground .few, chosen-long);
+        room = omega (arith, S .ground .room, stored-long stored, chosen-count);
+        few = omega (arith, S .ground .few, stored-long stored);
       }
 
-  -- the frames stand for what they stood for
-  pub chosen-same : (k : ℕ) → k < framesOf net → formulaAt net′ k ≡ formulaAt net k
+  -- the nodes before it stand for what they stood for
+  pub chosen-same : (k : ℕ) → k < place → formulaAt net′ k ≡ formulaAt net k
   chosen-same k h =
-      meaning-agree (packed net) (packed net′) (N .ground .ordered) (chosen-ground .ordered) k
-      (λ j l. rw chosen-net (replace-other (packed net) (framesOf net) own j (ne-eqb j (framesOf net) (λ e. omega arith))))
+      meaning-agree (packed net) (packed net′) (S .ground .ordered) (chosen-ground .ordered) k
+      (λ j m. rw chosen-net (replace-other (packed net) place own j (ne-eqb j place (λ e. omega arith))))
 
-  pub chosen-node : packed net′ (framesOf net′) ≡ Binds (val d) mask (framesOf net - 1)
-  chosen-node = rw (chosen-count, chosen-net) (replace-here (packed net) (framesOf net) own)
+  pub chosen-node : packed net′ place ≡ Binds (val d) mask (place - 1)
+  chosen-node = rw chosen-net (replace-here (packed net) place own)
 
-  -- free variables that are not of the mask are bound nowhere
-  pub chosen-clear : {m : ℕ} → Sub m (freeOf net) → Apart mask m → Clear (packed net′) (framesOf net′) m
-  chosen-clear t a = rw chosen-net (clear-replace (val d) (framesOf net - 1) (clear-sub (net-clear N (framesOf net′)) t) (λ l. a))
+  -- and it is the quantifier over the one before it
+  pub chosen-formula : formulaAt net′ place ≡ over (val d) mask (formulaAt net (place - 1))
+  chosen-formula =
+      at-binds (chosen-ground .ordered) chosen-node ∙ ap (over (val d) mask) (chosen-same (place - 1) (omega (arith, some-frames)))
 
--- forgetting gives the net back
-blank : (net : List ℕ) (i : ℕ) → getD net i 0 ≡ 0 → set net i 0 ≡ net
-blank net i e = ap (set net i) (sym e) ∙ set-getD net i 0
+  pub stacked-more : Stacked s base net′ (i + 1) (bitOr used mask)
+  stacked-more = record {
+    net-of = S .net-of;
+    some = S .some;
+    within = omega arith;
+    ground = chosen-ground;
+    frames-same = chosen-count ∙ S .frames-same;
+    long = stored-long stored ∙ S .long;
+    same = λ k h. chosen-same k (omega (arith, S .frames-same)) ∙ S .same k h;
+    clear = λ {m} t a k. rw chosen-net
+        (clear-replace (val d) (place - 1) (S .clear t (apart-sym (apart-sub (apart-sym a) (sub-or-left used mask))) k) (λ h. apart-sym (apart-sub (apart-sym a) (sub-or-right used mask))));
+    behind = λ k h. rw chosen-net (replace-other (packed net) place own k (ne-eqb k place (λ e. omega (arith, S .frames-same))) ∙ S .behind k (omega arith));
+    others = λ j h. other j h;
+  }
+    where
+      other : (j : ℕ) → (j < firstWord (framesOf base) ⊎ firstWord (framesOf base + 3) ≤ j) → getD net′ j 0 ≡ getD base j 0
+      other j (inl h) = stored-other stored j (λ e. omega (arith, S .frames-same)) (λ e. omega (arith, S .frames-same)) ∙ S .others j (inl h)
+      other j (inr h) = stored-other stored j (λ e. omega (arith, S .frames-same)) (λ e. omega (arith, S .frames-same)) ∙ S .others j (inr h)
 
-blank-again : (net : List ℕ) (a b w m : ℕ) → (b ≡ a → ⊥) → getD net a 0 ≡ 0 → getD net b 0 ≡ 0 → set (set (set (set net a w) b m) a 0) b 0 ≡ net
-blank-again net a b w m n e h =
-    rw (set-comm (set net a w) b a m 0 n, set-set net a w 0, blank net a e, set-set net b m 0) (blank net b h)
+-- ---- forgetting gives the net back
 
-pub forgotten-back : {s : Sheet} {net : List ℕ} {d mask : ℕ} {net′ net″ : List ℕ} → NetOf s net → Chosen net d mask net′ → Forgotten net′ net″ → net″ ≡ net
-forgotten-back {s} {net} {d} {mask} {net′} N C F =
-    let S : Stored net (framesOf net) (C .word) mask net′ = record { is = C .is } in
-    F .is
-    ∙ ap (λ (n : ℕ). set (set net′ (firstWord n) 0) (secondWord n) 0) (stored-count S)
-    ∙ ap (λ (l : List ℕ). set (set l (firstWord (framesOf net)) 0) (secondWord (framesOf net)) 0) (C .is)
-    ∙ blank-again net (firstWord (framesOf net)) (secondWord (framesOf net)) (C .word) mask (λ e. omega arith) (N .first-empty) (N .second-empty)
+pub stacked-back : {s : Sheet} {base net : List ℕ} {count used : ℕ} {net′ : List ℕ} → Stacked s base net count used → Forgotten net net′ → net′ ≡ base
+stacked-back {s} {base} {net} {count} {used} {net′} S F =
+    ext-getD 0 net′ base (F .long ∙ S .long) (λ i h. by-bool (ltb i (firstWord (framesOf base)))
+    (λ a. F .others i (inl (omega (tests, S .frames-same))) ∙ S .others i (inl (omega tests)))
+    (λ a. by-bool (ltb i (firstWord (framesOf base + 3)))
+    (λ b. F .emptied i (omega (tests, S .frames-same)) (omega (tests, S .frames-same)) ∙ sym (S .net-of .empty i (omega tests)))
+    (λ b. F .others i (inr (omega (tests, S .frames-same))) ∙ S .others i (inr (omega tests)))))
 
 -- ---- the quantifier as the code reads it
 

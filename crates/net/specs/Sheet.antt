@@ -10,11 +10,11 @@ use Rattle.formula.specs.Ask.{freeMask}
 use Rattle.sheet.specs.Fields.{Sheet, frames, mostFrames, variables, kind}
 use Rattle.sheet.specs.Frames.{formula}
 use Rattle.sheet.specs.Frames as Sheets
-use Rattle.sheet.specs.Rules.{binds}
+use Rattle.sheet.specs.Rules.{binds, gauges}
 -- the number of the last frame
 pub use Rattle.sheet.specs.Rules.{last}
-use Rattle.net.specs.Net.{Fixed, Clear}
-use Rattle.net.specs.Layout.{netWords, netForm, form-words, framesOf, freeOf, firstWord, secondWord, packed, formulaAt, Ground}
+use Rattle.net.specs.Net.{Clear}
+use Rattle.net.specs.Layout.{netWords, netForm, form-words, framesOf, freeOf, gaugesOf, firstWord, packed, formulaAt, Ground}
 use Rattle.net.specs.Stands.{Stands}
 
 -- the formula of the whole sheet
@@ -31,18 +31,16 @@ pub record Checked (s : Sheet) (free : ℕ) : Type 0 where
   pub once : (j k v : ℕ) → j < frames s → k < frames s → binds (kind s j) v ≡ true → binds (kind s k) v ≡ true → j ≡ k
   pub closed : (k v : ℕ) → k < frames s → binds (kind s k) v ≡ true → Truth.free (root s) v ≡ false
 
--- the net of s: every node of a frame stands for it, and the place behind the last frame is empty
+-- the net of s: every node of a frame stands for it, and behind the last frame all is empty
 pub record NetOf (s : Sheet) (net : List ℕ) : Type 0 where
   pub ground : Ground net
   pub long : length net ≡ netWords (s .form)
   pub count : framesOf net ≡ frames s
   pub opens : freeOf net ≡ freeMask (variables s) (root s)
+  pub gauged : gaugesOf net ≡ gauges s
   pub each : (k : ℕ) → k < frames s → Stands (formula s k) (formulaAt net k)
   pub clear : Clear (packed net) (last s) (freeOf net)
-  pub first-empty : getD net (firstWord (framesOf net)) 0 ≡ 0
-  pub second-empty : getD net (secondWord (framesOf net)) 0 ≡ 0
-  -- behind the frames there are no nodes
-  pub behind : (k : ℕ) → framesOf net ≤ k → packed net k ≡ Fixed false
+  pub empty : (i : ℕ) → firstWord (framesOf net) ≤ i → getD net i 0 ≡ 0
 
 -- the free variables are those that the net has
 pub checked-net : {s : Sheet} {net : List ℕ} {free : ℕ} → Checked s free → NetOf s net → Checked s (freeOf net)

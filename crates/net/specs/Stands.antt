@@ -1,6 +1,6 @@
 -- g stands for f: the same truth under every assignment, and the same free variables. Reasons and tables of the one are those of the other. Assumes nothing.
 use Prim.Native.Nat.{ℕ, _<_}
-use mathlib.Core.Path.{_≡_, refl, sym, _∙_}
+use mathlib.Core.Path.{_≡_, refl, sym, _∙_, ap}
 use mathlib.Core.Bool.{Bool, true, false, not, _&&_}
 use Rattle.words.specs.Logic.{by-bool, and-both}
 use Rattle.words.specs.Word.{bit}
@@ -8,7 +8,7 @@ use Rattle.words.specs.Mask.{Apart, without, bits-apart, bit-without}
 use Rattle.formula.specs.Assignment.{Assignment, On}
 use Rattle.formula.specs.Formula.{Formula, truth, free}
 use Rattle.formula.specs.Reason.{Explains}
-use Rattle.net.specs.Over.{over, over-free, over-meets, over-all, blend, blend-on, blend-off}
+use Rattle.formula.specs.Over.{over, over-free, over-same, over-meets, over-misses, over-all, blend, blend-on, blend-off}
 
 pub record Stands (f g : Formula) : Type 0 where
   pub same : (σ : Assignment) → truth g σ ≡ truth f σ
@@ -25,6 +25,13 @@ stands-sym a = record { same = λ σ. sym (a .same σ); reads = λ k. sym (a .re
 
 pub explains-stands : {f g : Formula} {v : Bool} {r w : Assignment} → Stands f g → Explains g v r w → Explains f v r w
 explains-stands s G = record { inside = λ k e. sym (s .reads k) ∙ G .inside k e; forces = λ σ h. sym (s .same σ) ∙ G .forces σ h }
+
+-- quantifiers over formulas that stand for each other do
+pub over-stands : {f g : Formula} (d : Bool) (m : ℕ) → Stands f g → Stands (over d m f) (over d m g)
+over-stands {f} {g} d m s = record {
+  same = λ σ. over-same d m m g f σ σ (λ α b t. (α, b, sym (s .same α) ∙ t)) (λ β b t. (β, b, s .same β ∙ t));
+  reads = λ k. over-free d m g k ∙ ap (λ (x : Bool). x && not (bit m k)) (s .reads k) ∙ sym (over-free d m f k);
+}
 
 -- ---- the reasons of a quantifier over a mask, as words
 
@@ -45,3 +52,10 @@ module _ {f : Formula} {w : Assignment} (d : Bool) (m r : ℕ) where
         inside = λ k e. over-free d m f k ∙ rw (F .inside k e, bits-apart a k e);
         forces = λ σ h. over-all d m f σ (λ τ t. F .forces τ (λ k e. t k (bits-apart a k e) ∙ h k e));
       }
+
+-- what does not decide a quantifier does not decide its body either
+pub mask-below : {f : Formula} {w : Assignment} (d : Bool) (m r : ℕ) → Explains (over d m f) (not d) (bit r) w → Explains f (not d) (bit r) w
+mask-below {f} d m r F = record {
+  inside = λ k e. and-both (free f k) (not (bit m k)) (sym (over-free d m f k) ∙ F .inside k e) .0;
+  forces = λ σ h. over-misses d m f σ (F .forces σ h) σ (λ k e. refl);
+}

@@ -10,7 +10,7 @@ use lib.Dec.{eqb}
 use borrow.Author.Tests.{eqb-true}
 use Rattle.words.specs.Logic.{by-bool, tests}
 use Rattle.net.specs.Net.{Fixed, nodeOf, replace, replace-here, replace-other}
-use Rattle.net.specs.Layout.{framesOf, freeOf, firstWord, secondWord, HasNode, unpack, packed, Is}
+use Rattle.net.specs.Layout.{framesOf, freeOf, gaugesOf, firstWord, secondWord, HasNode, unpack, packed, Is}
 
 -- ---- one word
 
@@ -71,13 +71,16 @@ module _ {net net′ : List ℕ} {k w m : ℕ} (S : Stored net k w m net′) whe
   pub stored-opens : freeOf net′ ≡ freeOf net
   stored-opens = stored-other 1 (λ e. omega arith) (λ e. omega arith)
 
-  stored-first : HasNode net k → getD net′ (firstWord k) 0 ≡ w
+  pub stored-gauged : gaugesOf net′ ≡ gaugesOf net
+  stored-gauged = stored-other 2 (λ e. omega arith) (λ e. omega arith)
+
+  pub stored-first : HasNode net k → getD net′ (firstWord k) 0 ≡ w
   stored-first h =
       ap (λ (l : List ℕ). getD l (firstWord k) 0) (S .is)
       ∙ getD-set-other (set net (firstWord k) w) (secondWord k) (firstWord k) m 0 (λ e. omega arith)
       ∙ getD-set-same net (firstWord k) w 0 (omega arith)
 
-  stored-second : HasNode net k → getD net′ (secondWord k) 0 ≡ m
+  pub stored-second : HasNode net k → getD net′ (secondWord k) 0 ≡ m
   stored-second h =
       ap (λ (l : List ℕ). getD l (secondWord k) 0) (S .is)
       ∙ getD-set-same (set net (firstWord k) w) (secondWord k) m 0 (omega (arith, length-set net (firstWord k) w))

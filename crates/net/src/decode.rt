@@ -6,6 +6,7 @@ ghost use lib.ListN.{length, set};
 ghost use Rattle.form.specs.Form.{formOf};
 ghost use Rattle.sheet.specs.Fields.{sheetOf, frames, kind};
 ghost use Rattle.sheet.specs.Frames.{Fit};
+ghost use Rattle.sheet.specs.Rules as Rules;
 ghost use Rattle.net.specs.Decode.{nodeOfKind};
 ghost use Rattle.net.specs.Layout.{unpack};
 ghost use Rattle.net.specs.Sheet.{Checked, NetOf};
@@ -37,6 +38,7 @@ fn mask_of(kind: Kind) -> u64
         Kind::Or(_, _) => 0,
         Kind::Exists(_, b, c) => sheet::range_word(b, c),
         Kind::Forall(_, b, c) => sheet::range_word(b, c),
+        Kind::Gauge(_) => 0,
     }
 }
 
@@ -53,6 +55,7 @@ fn word_of(kind: Kind) -> u64
         Kind::Or(a, b) => word(5, index(a), index(b)),
         Kind::Exists(a, _, _) => word(6, index(a), 0),
         Kind::Forall(a, _, _) => word(7, index(a), 0),
+        Kind::Gauge(x) => word(2, index(x), 0),
     }
 }
 
@@ -90,24 +93,25 @@ fn load_frames(sheet: &[u8], net: &mut [u64], mut pass: Pass) -> Pass
     pass
 }
 
-// How many frames there are, and the free variables of the last.
-fn head(net: &mut [u64], frames: usize, free: u64)
-    requires { ⌜ 1 < length (now net) ⌝ }
-    ensures { λ _. ⌜ now (net .exit) ≡ set (set (now (net .entry)) 0 frames) 1 free ⌝ }
+// How many frames there are, the free variables of the last, and the gauges.
+fn head(net: &mut [u64], frames: usize, free: u64, gauges: u64)
+    requires { ⌜ 2 < length (now net) ⌝ }
+    ensures { λ _. ⌜ now (net .exit) ≡ set (set (set (now (net .entry)) 0 frames) 1 free) 2 gauges ⌝ }
 {
     net[0] = frames as u64;
     net[1] = free;
+    net[2] = gauges;
 }
 
-// The whole sheet, rewritten and linked. The net has room for every sheet of the form and one node more, and is empty.
-pub fn load(sheet: &[u8], wide: bool, free: u64, net: &mut [u64])
-    requires { ⌜ Checked (sheetOf (formOf wide) (now sheet)) free × Empty (formOf wide) (now net) ⌝ }
+// The whole sheet, rewritten and linked. The net has room for every sheet of the form and three nodes more, and is empty.
+pub fn load(sheet: &[u8], wide: bool, free: u64, gauges: u64, net: &mut [u64])
+    requires { ⌜ Checked (sheetOf (formOf wide) (now sheet)) free × (gauges ≡ Rules.gauges (sheetOf (formOf wide) (now sheet))) × Empty (formOf wide) (now net) ⌝ }
     ensures { λ _. ⌜ NetOf (sheetOf (formOf wide) (now (sheet .entry))) (now (net .exit)) ⌝ }
 {
     let first = Pass { wide, more: true };
     load_frames(sheet, net, first);
     let form = form::of(wide);
-    head(net, form::frames(form, sheet.len()), free);
+    head(net, form::frames(form, sheet.len()), free, gauges);
     nest(net);
     link(net);
 }

@@ -10,6 +10,7 @@ pub use node::Node;
 pub use node::form;
 pub use node::frames;
 pub use node::free;
+pub use node::gauges;
 pub use node::node_at;
 pub use own::choose;
 pub use own::forget;

@@ -11,7 +11,7 @@ use crate::node::frames;
 use crate::node::node_at;
 
 // Where the links of the variables begin.
-const READERS: usize = 2;
+const READERS: usize = 3;
 
 // The bits of the first word: users of the node, then the next user of what its left side is, then of what its right side is.
 const USERS: u64 = 268435456;
@@ -32,7 +32,7 @@ pub fn user_of(net: &[u64], k: usize) -> usize
 
 // The last node that reads the variable.
 pub fn reader_of(net: &[u64], variable: u8) -> usize
-    requires { ⌜ (variable < 64) × (66 < length (now net)) ⌝ }
+    requires { ⌜ (variable < 64) × (67 < length (now net)) ⌝ }
     ensures { λ r. ⌜ r < 4096 ⌝ }
 {
     (net[READERS + variable as usize] % 4096) as usize

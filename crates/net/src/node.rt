@@ -1,21 +1,22 @@
 // The words of a net, and how they are read:
 //   0          how many frames the sheet has; frame k is node k
 //   1          the free variables of the last frame
-//   2 to 65    for each variable the last node that reads it (links.rt)
-//   66 + 2k    node k: four bits of op, twelve of left, twelve of right, and three links of twelve bits (links.rt)
-//   67 + 2k    its mask
+//   2          the gauges
+//   3 to 66    for each variable the last node that reads it (links.rt)
+//   67 + 2k    node k: four bits of op, twelve of left, twelve of right, and three links of twelve bits (links.rt)
+//   68 + 2k    its mask
 ghost use mathlib.Core.Path.{_≡_};
 ghost use Prim.Native.Nat.{ℕ, _+_, _*_, _<_};
 ghost use lib.ListN.{length, set};
 ghost use Rattle.net.specs.Net.{nodeOf};
-ghost use Rattle.net.specs.Layout.{netForm, framesOf, freeOf, firstWord, secondWord, HasNode, unpack, Is, decides};
+ghost use Rattle.net.specs.Layout.{netForm, framesOf, freeOf, gaugesOf, firstWord, secondWord, HasNode, unpack, Is, decides};
 use form::Form;
 
 // Where the nodes begin.
-pub const NODES: usize = 66;
+pub const NODES: usize = 67;
 
-// The words of a narrow sheet's net: 200 nodes and one more.
-const NARROW_WORDS: usize = 468;
+// The words of a narrow sheet's net: 200 nodes and three more.
+const NARROW_WORDS: usize = 473;
 
 // The form of the net's sheet: a wide one has room for more nodes.
 pub fn form(net: &[u64]) -> Form
@@ -44,6 +45,13 @@ pub fn free(net: &[u64]) -> u64
     ensures { λ r. ⌜ r ≡ freeOf (now (net .entry)) ⌝ }
 {
     net[1]
+}
+
+pub fn gauges(net: &[u64]) -> u64
+    requires { ⌜ 2 < length (now net) ⌝ }
+    ensures { λ r. ⌜ r ≡ gaugesOf (now (net .entry)) ⌝ }
+{
+    net[2]
 }
 
 pub fn node_at(net: &[u64], k: usize) -> Node

@@ -1,14 +1,13 @@
 -- The frames of a question, in the order that document 02 gives: inputs, negations, clauses, their conjunction, quantifiers. Executable. Assumes nothing.
 use Prim.Native.Nat.{ℕ, zero, suc, _+_, _-_}
-use mathlib.Core.Bool.{Bool, true, false, not, cond, _&&_, _||_}
+use mathlib.Core.Bool.{Bool, cond}
 use mathlib.Core.List.{List, [], _∷_, _++_, map}
-use mathlib.Core.Path.{_≡_}
 use lib.Dec.{eqb}
 use lib.ListN.{length}
 use Rattle.form.specs.Form as Sizes
 use Rattle.form.specs.declared.Form.the-variants.{Narrow}
 use Rattle.sheet.specs.declared.Kind.{Kind}
-use Rattle.sheet.specs.declared.Kind.the-variants.{Never, Input, Not, And, Or, Exists, Forall}
+use Rattle.sheet.specs.declared.Kind.the-variants.{Never, Input, Not, And, Or, Exists, Forall, Gauge}
 use Rattle.prenex.specs.Question.{Literal, Block, Clause, Question, occurs, negated, member}
 
 -- questions have narrow sheets: variables are 0 to 31, frames at most 200
@@ -141,6 +140,7 @@ frameBytes (And a b) = 3 ∷ a ∷ b ∷ 0 ∷ []
 frameBytes (Or a b) = 4 ∷ a ∷ b ∷ 0 ∷ []
 frameBytes (Exists a b c) = 5 ∷ a ∷ b ∷ c ∷ []
 frameBytes (Forall a b c) = 6 ∷ a ∷ b ∷ c ∷ []
+frameBytes (Gauge x) = 7 ∷ x ∷ 0 ∷ 0 ∷ []
 
 unfoldable pub sheetBytes : List Kind → List ℕ
 sheetBytes [] = []

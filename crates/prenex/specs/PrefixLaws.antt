@@ -14,7 +14,7 @@ use Rattle.formula.specs.Formula.{Formula, quant, truth, free}
 use Rattle.sheet.specs.Frames.{build, formulaOf, Fit, OrderedBelow, formula-below}
 use Rattle.sheet.specs.Rules.{binds}
 use Rattle.sheet.specs.declared.Kind.{Kind}
-use Rattle.sheet.specs.declared.Kind.the-variants.{Never, Input, Not, And, Or, Exists, Forall}
+use Rattle.sheet.specs.declared.Kind.the-variants.{Never, Input, Not, And, Or, Exists, Forall, Gauge}
 use Rattle.prenex.specs.Question.{Block, overAtoms, underBlocks, member, allAtoms, quantified}
 use Rattle.prenex.specs.Question.{Every, every-none, every-one, Distinct, distinct-one}
 use Rattle.prenex.specs.Kinds.{variables, Run, runs, quantifier, runKinds, blockKinds}
@@ -225,7 +225,7 @@ stands-blocks {n = n} {p = p} {g = g} (every-one {a = b} {l = bs} w ws) h s =
 
 -- ---- what the frames from n to e bind: each at least one variable, all of them variables of m, and none twice
 
--- a quantifier binds a variable
+-- a frame of a question: a quantifier binds a variable, and nothing is a gauge
 abbrev pub Ranged : Kind → Type 0
 Ranged Never = Unit {0}
 Ranged (Input x) = Unit {0}
@@ -234,6 +234,7 @@ Ranged (And a b) = Unit {0}
 Ranged (Or a b) = Unit {0}
 Ranged (Exists a b c) = 1 ≤ c
 Ranged (Forall a b c) = 1 ≤ c
+Ranged (Gauge x) = ⊥
 
 pub record Binds (κ : ℕ → Kind) (n e : ℕ) (m : ℕ → Bool) : Type 0 where
   pub ranged : (k : ℕ) → n ≤ k → k < e → Ranged (κ k)

@@ -1,8 +1,8 @@
--- The sheet of a question keeps the rules for a sheet, and its formula has the question's truth and free variables. Assumes nothing.
+-- The sheet of a question keeps the rules for a sheet and has no gauge, and its formula has the question's truth and free variables. Assumes nothing.
 use Prim.Native.Nat.{ℕ, _+_, _-_, _≤_, _<_}
 use native.Mathlib.Nat.{le-trans, zero-add}
 use native.Mathlib.Omega.{arith}
-use mathlib.Core.Path.{_≡_, refl, sym, _∙_, ap, subst}
+use mathlib.Core.Path.{_≡_, refl, sym, _∙_, subst}
 use mathlib.Core.Bool.{Bool, true, false, not, _&&_, and-false}
 use mathlib.Core.Logic.{⊎-elim}
 use mathlib.Core.List.{List, [], _∷_, List·Memᴰ, List·Memᴰ·cases-cons, List·Memᴰ·not-nil}
@@ -13,10 +13,11 @@ use Rattle.formula.specs.Assignment.{Assignment}
 use Rattle.formula.specs.Formula.{truth, free}
 use Rattle.sheet.specs.Fields.{Sheet, narrow, frames, kind}
 use Rattle.sheet.specs.Frames.{formula, Fit, Ordered, OrderedBelow, kind-past}
-use Rattle.sheet.specs.Rules.{last, used, names, binds}
-use Rattle.sheet.specs.Keeps.{Quantifies, Keeps}
+use Rattle.sheet.specs.Rules.{last, used, names, binds, gauges}
+use Rattle.sheet.specs.Gauges.{no-gauges}
+use Rattle.sheet.specs.Keeps.{Quantifies, Reads, Keeps}
 use Rattle.sheet.specs.declared.Kind.{Kind}
-use Rattle.sheet.specs.declared.Kind.the-variants.{Never, Input, Not, And, Or, Exists, Forall}
+use Rattle.sheet.specs.declared.Kind.the-variants.{Never, Input, Not, And, Or, Exists, Forall, Gauge}
 use Rattle.prenex.specs.Question.{Literal, Block, Clause, Question, matrixTruth, questionTruth, occurs, allAtoms, quantified}
 use Rattle.prenex.specs.Question.{Every, Distinct, SomeBelow, Proper}
 use Rattle.prenex.specs.Kinds.{variables, matrixKinds, blockKinds, kinds, frameBytes, sheetBytes, sheetOf}
@@ -28,7 +29,7 @@ use Rattle.prenex.specs.PrefixLaws.{BlocksBelow, Stands, stands-same, st
 
 -- ---- the fields of a frame
 
-fields-known : (d : Kind) → fieldsOf d .k ≤ 6
+fields-known : (d : Kind) → fieldsOf d .k ≤ 7
 unfolding frameBytes
 fields-known Never = omega arith
 fields-known (Input x) = omega arith
@@ -37,6 +38,7 @@ fields-known (And a b) = omega arith
 fields-known (Or a b) = omega arith
 fields-known (Exists a b c) = omega arith
 fields-known (Forall a b c) = omega arith
+fields-known (Gauge x) = omega arith
 
 -- those that a kind does not use are 0
 fields-spare : (d : Kind) → (used d < 1 → fieldsOf d .a ≡ 0) × (used d < 2 → fieldsOf d .b ≡ 0) × (used d < 3 → fieldsOf d .c ≡ 0)
@@ -48,6 +50,7 @@ fields-spare (And a b) = (λ h. absurd (omega arith), λ h. absurd (omega arith)
 fields-spare (Or a b) = (λ h. absurd (omega arith), λ h. absurd (omega arith), λ h. refl)
 fields-spare (Exists a b c) = (λ h. absurd (omega arith), λ h. absurd (omega arith), λ h. absurd (omega arith))
 fields-spare (Forall a b c) = (λ h. absurd (omega arith), λ h. absurd (omega arith), λ h. absurd (omega arith))
+fields-spare (Gauge x) = (λ h. absurd (omega arith), λ h. refl, λ h. refl)
 
 -- ---- the rules
 
@@ -63,6 +66,10 @@ fit-earlier k a (And b c) w m = ⊎-elim (λ e. omega (arith, e, w .0)) (λ n. o
 fit-earlier k a (Or b c) w m = ⊎-elim (λ e. omega (arith, e, w .0)) (λ n. one-earlier k a c (w .1) n) (List·Memᴰ·cases-cons m)
 fit-earlier k a (Exists b c e) w m = one-earlier k a b (w .0) m
 fit-earlier k a (Forall b c e) w m = one-earlier k a b (w .0) m
+fit-earlier k a (Gauge x) w m = absurd (List·Memᴰ·not-nil m)
+
+fit-variable : (k x : ℕ) (d : Kind) → Fit variables k d → Reads d x → x < 32
+fit-variable k x d w q = ⊎-elim (λ e. subst (Fit variables k) e w) (λ e. subst (Fit variables k) e w) q
 
 fit-range : (k a b c : ℕ) (d : Kind) → Fit variables k d → Ranged d → Quantifies d a b c → (1 ≤ c) × (c ≤ 32) × (b + c ≤ 32)
 fit-range k a b c d w r q =
@@ -70,6 +77,10 @@ fit-range k a b c d w r q =
     (λ e. let f : Fit variables k (Exists a b c) = subst (Fit variables k) e w in (subst Ranged e r, omega (arith, f .1), f .1))
     (λ e. let f : Fit variables k (Forall a b c) = subst (Fit variables k) e w in (subst Ranged e r, omega (arith, f .1), f .1))
     q
+
+-- none of these frames is a gauge
+bound-ungauged : {κ : ℕ → Kind} {n e : ℕ} {m : ℕ → Bool} → Binds κ n e m → (k x : ℕ) → n ≤ k → k < e → κ k ≡ Gauge x → ⊥
+bound-ungauged b k x i j q = subst Ranged q (b .ranged k i j)
 
 -- kinds whose frames are in order and bind each variable of m once, none of them open in the last frame, make a sheet
 sheet-keeps : (ks : List Kind) (m : ℕ → Bool) → 1 ≤ length ks → length ks ≤ 200
@@ -84,8 +95,10 @@ sheet-keeps ks m l u o b c = record {
   spare-b = λ k h i. rw (sheet-fields ks k (rw n at h)) (fields-spare (getD ks k Never) .1 (rw (sheet-kind ks k) at i));
   spare-c = λ k h i. rw (sheet-fields ks k (rw n at h)) (fields-spare (getD ks k Never) .2 (rw (sheet-kind ks k) at i));
   earlier = λ k a h i. fit-earlier k a (kind s k) (o k (rw n at h)) i;
-  variable = λ k x h e. let w : x < variables = subst (Fit variables k) e (o k (rw n at h)) in omega arith;
+  variable = λ k x h e. fit-variable k x (kind s k) (o k (rw n at h)) e;
   range = λ k a x y h q. fit-range k a x y (kind s k) (o k (rw n at h)) (b .ranged k (omega arith) (rw n at h)) q;
+  unmixed = λ j k x h i p q. bound-ungauged b k x (omega arith) (rw n at i) q;
+  unbound = λ j k x h i q. absurd (bound-ungauged b j x (omega arith) (rw n at h) q);
   once = λ j k v h i. b .once j k v (omega arith) (rw n at h) (omega arith) (rw n at i);
   closed = λ k v h t. rw n (c v (b .bound k v (omega arith) (rw n at h) t));
 }
@@ -103,8 +116,15 @@ pub record SheetOfMatrix (cs : List Clause) : Type 0 where
   pub least : 0 < frames (narrow (sheetBytes (matrixKinds cs)))
   pub most : frames (narrow (sheetBytes (matrixKinds cs))) ≤ 200
   pub unbound : (k v : ℕ) → k < frames (narrow (sheetBytes (matrixKinds cs))) → binds (kind (narrow (sheetBytes (matrixKinds cs))) k) v ≡ false
+  pub ungauged : gauges (narrow (sheetBytes (matrixKinds cs))) ≡ 0
   pub truth-is : (σ : Assignment) → truth (formula (narrow (sheetBytes (matrixKinds cs))) (last (narrow (sheetBytes (matrixKinds cs))))) σ ≡ matrixTruth cs σ
   pub free-is : (x : ℕ) → free (formula (narrow (sheetBytes (matrixKinds cs))) (last (narrow (sheetBytes (matrixKinds cs))))) x ≡ occurs cs x
+
+plain-ranged : {k : ℕ} {d : Kind} → Plain k d → Ranged d
+plain-ranged (plain-input h) = tt
+plain-ranged (plain-not h) = tt
+plain-ranged (plain-and h i) = tt
+plain-ranged (plain-or h i) = tt
 
 -- past the end there is Never
 sheet-ordered : (ks : List Kind) → OrderedBelow (length ks) variables (kind (narrow (sheetBytes ks))) → Ordered variables (kind (narrow (sheetBytes ks)))
@@ -131,6 +151,7 @@ matrix-sheet cs l b u =
       least = omega (arith, n, w .least);
       most = omega (arith, n);
       unbound = λ k v i. w .unbound k v (rw n at i);
+      ungauged = no-gauges (narrow (sheetBytes (matrixKinds cs))) (λ k i x e. subst Ranged e (plain-ranged (w .plain k (rw n at i))));
       truth-is = λ σ. rw n (w .truth-is σ);
       free-is = λ x. rw n (w .free-is x);
     }
@@ -139,17 +160,12 @@ matrix-sheet cs l b u =
 
 pub record SheetOf (q : Question) : Type 0 where
   pub keeps : Keeps (narrow (sheetOf q))
+  pub ungauged : gauges (narrow (sheetOf q)) ≡ 0
   pub truth-is : (σ : Assignment) → truth (formula (narrow (sheetOf q)) (last (narrow (sheetOf q)))) σ ≡ questionTruth q σ
   pub free-is : (x : ℕ) → free (formula (narrow (sheetOf q)) (last (narrow (sheetOf q)))) x ≡ occurs (q .clauses) x && not (quantified (q .blocks) x)
 
 blocks-below : {n : ℕ} {bs : List Block} → n ≤ variables → Every (λ (b : Block). SomeBelow (λ (x : ℕ). x) n (b .atoms)) bs → BlocksBelow bs
 blocks-below h w = every-map (λ b x. every-map (λ y z. le-trans z h) (x .below)) w
-
-plain-ranged : {k : ℕ} {d : Kind} → Plain k d → Ranged d
-plain-ranged (plain-input h) = tt
-plain-ranged (plain-not h) = tt
-plain-ranged (plain-and h i) = tt
-plain-ranged (plain-or h i) = tt
 
 -- frames that have the kinds of a question: what they mean, and what they bind
 module _ (κ : ℕ → Kind) (q : Question) (h : Has κ 0 (kinds q)) (matrix : MatrixStands κ (q .clauses)) (below : BlocksBelow (q .blocks)) where
@@ -196,6 +212,7 @@ question-sheet q w l u =
     record {
       keeps = sheet-keeps (kinds q) (quantified (q .blocks)) (whole .least) u (whole .ordered) bound
           (λ v t. whole .free-is v ∙ rw t (and-false (occurs (q .clauses) v)));
+      ungauged = no-gauges (narrow (sheetOf q)) (λ k i x e. bound-ungauged bound k x (omega arith) (rw n at i) e);
       truth-is = λ σ. rw n (whole .truth-is σ);
       free-is = λ x. rw n (whole .free-is x);
     }

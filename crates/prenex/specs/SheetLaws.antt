@@ -12,7 +12,7 @@ use Rattle.sheet.specs.Fields.{narrow, frames, laid, fieldsAt, kindOf, kind, fi
 use Rattle.sheet.specs.Frames.{kind-past}
 use Rattle.sheet.specs.declared.Fields.{Fields}
 use Rattle.sheet.specs.declared.Kind.{Kind}
-use Rattle.sheet.specs.declared.Kind.the-variants.{Never, Input, Not, And, Or, Exists, Forall}
+use Rattle.sheet.specs.declared.Kind.the-variants.{Never, Input, Not, And, Or, Exists, Forall, Gauge}
 use Rattle.prenex.specs.Kinds.{frameBytes, sheetBytes}
 
 -- ---- the bytes
@@ -26,6 +26,7 @@ frame-length (And a b) = refl
 frame-length (Or a b) = refl
 frame-length (Exists a b c) = refl
 frame-length (Forall a b c) = refl
+frame-length (Gauge x) = refl
 
 pub sheet-length : (ks : List Kind) → length (sheetBytes ks) ≡ length ks * 4
 unfolding sheetBytes
@@ -56,6 +57,7 @@ first-laid (And a b) s = refl
 first-laid (Or a b) s = refl
 first-laid (Exists a b c) s = refl
 first-laid (Forall a b c) s = refl
+first-laid (Gauge x) s = refl
 
 laid-at : (ks : List Kind) (k : ℕ) → k < length ks → laid Narrow (sheetBytes ks) k ≡ fieldsOf (getD ks k Never)
 unfolding sheetBytes
@@ -82,6 +84,7 @@ fields-kind (And a b) = refl
 fields-kind (Or a b) = refl
 fields-kind (Exists a b c) = refl
 fields-kind (Forall a b c) = refl
+fields-kind (Gauge x) = refl
 
 pub sheet-kind : (ks : List Kind) (k : ℕ) → kind (narrow (sheetBytes ks)) k ≡ getD ks k Never
 sheet-kind ks k =

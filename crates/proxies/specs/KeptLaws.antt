@@ -3,7 +3,7 @@ use Prim.Native.Nat.{ℕ, _-_, _%_, _<_, _^_}
 use native.Mathlib.Nat.{mod-eq-of-lt, lt-of-le-of-lt}
 use native.Mathlib.Omega.{arith}
 use mathlib.Core.Path.{_≡_, sym, _∙_, ap}
-use mathlib.Core.Bool.{Bool, true, _&&_, and-true}
+use mathlib.Core.Bool.{Bool, _&&_, and-true}
 use mathlib.Core.Logic.{_⊎_, inl, inr}
 use mathlib.Core.List.{List}
 use lib.Dec.{ltb}
@@ -71,10 +71,10 @@ pub recorded-at : {F : Form} {t : List ℕ} {count frame every setting j r : ℕ
 recorded-at {j = j} w ea es f e = record { at = j; counted = f .counted; hit = rw (ea, es) at (f .hit); reason = e }
 
 -- a record that agrees gives the node its value, and is one that is kept
-pub recorded-told : {net : List ℕ} {F : Form} {i m w v r : ℕ} {u : List ℕ} {cu : ℕ} {o : List ℕ} {co : ℕ} → Ground net → F ≡ netForm net → Tables (netForm net) (formulaAt net) (framesOf net) u cu o co → Covers net i m → 0 < v → Recorded F i w u cu o co v r
+pub recorded-told : {net : List ℕ} {i m w v r : ℕ} {u : List ℕ} {cu : ℕ} {o : List ℕ} {co : ℕ} → Ground net → Tables (netForm net) (formulaAt net) (framesOf net) u cu o co → Covers net i m → 0 < v → Recorded (netForm net) i w u cu o co v r
     → Told net m w i v r × Noted (netForm net) i v w u cu o co
 unfolding val
-recorded-told {net} {F} {i} {m} {w} {v} {r} {u} {cu} {o} {co} G ef T C s R = by (rw ef at (R s))
+recorded-told {net} {i} {m} {w} {v} {r} {u} {cu} {o} {co} G T C s R = by (R s)
   where
     by : ((v ≡ 2) × RecordAt (netForm net) u cu i w r) ⊎ ((v ≡ 1) × RecordAt (netForm net) o co i w r) → Told net m w i v r × Noted (netForm net) i v w u cu o co
     by (inl (e, A)) = (

@@ -53,7 +53,8 @@ pub record L′ (net u : List ℕ) (cu : ℕ) (o : List ℕ) (co a : ℕ) (targe
   pub true-proxy : (b : ℕ) → free (body net a) (proxy b) ≡ true → σ (proxy b) ≡ true → Agreeing (netForm net) u cu b σ
   pub false-proxy : (b : ℕ) → free (body net a) (proxy b) ≡ true → σ (proxy b) ≡ false → Agreeing (netForm net) o co b σ
 
--- a child whose value is known: what `quantified` ensures of the child b when it is checked under the candidate w, of which the variables of m are set
+-- a child whose value is known: what `quantified` ensures of the child b, a frame, when it is checked under the candidate w, of which the variables of m
+-- are set
 pub record Settled (net : List ℕ) (m w : ℕ) (u : List ℕ) (cu : ℕ) (o : List ℕ) (co b : ℕ) : Type 0 where
   pub value : ℕ
   pub reason : ℕ

@@ -70,9 +70,9 @@ settled-grown {net} {w = w} {b = b} g q = record {
 }
 
 -- a child that `recorded` found a record of
-pub recorded-settled : {net : List ℕ} {F : Form} {u : List ℕ} {cu : ℕ} {o : List ℕ} {co m w b v r : ℕ} → Ground net → F ≡ netForm net → Tables (netForm net) (formulaAt net) (framesOf net) u cu o co → Covers net b m
-    → 0 < v → Recorded F b w u cu o co v r → Settled net m w u cu o co b
-recorded-settled {v = v} {r = r} G ef T c s R = let q = recorded-told G ef T c s R in record { value = v; reason = r; told = q .0; noted = q .1 }
+pub recorded-settled : {net u : List ℕ} {cu : ℕ} {o : List ℕ} {co m w b v r : ℕ} → Ground net → Tables (netForm net) (formulaAt net) (framesOf net) u cu o co → Covers net b m
+    → 0 < v → Recorded (netForm net) b w u cu o co v r → Settled net m w u cu o co b
+recorded-settled {v = v} {r = r} G T c s R = let q = recorded-told G T c s R in record { value = v; reason = r; told = q .0; noted = q .1 }
 
 -- ---- the candidate w with each proxy at its node's truth
 
@@ -165,7 +165,7 @@ module _ {net : List ℕ} (G : Ground net) (w : ℕ) where
     settled-false h p = kept-agreeing h (q .noted .over (omega (tests, q .told .some, q .told .forced .low, sym proxy-is ∙ p)))
 
   -- Law 3. The candidate w gives the body the target's truth, and each child's value is known. Then L' holds of the candidate, as long as the tables
-  -- have room. (A child that the body's value does not need is not checked, and may have no record.)
+  -- have room. (A child that the body's value does not need is not checked, and may have no record; one behind the frames has none.)
   pub found : {m : ℕ} {u : List ℕ} {cu : ℕ} {o : List ℕ} {co a : ℕ} {t : Bool} → cu < room (netForm net) (length u) → co < room (netForm net) (length o) → truth (formulaAt net a) (bit w) ≡ t
       → ((b : ℕ) → free (body net a) (proxy b) ≡ true → Settled net m w u cu o co b) → L′ net u cu o co a t (completed net w)
   found {a = a} h l e f = record {

@@ -40,7 +40,7 @@ pub fn low(form: Form, word: u64) -> u64
 }
 
 // What a record says of the frame under a full candidate: source 000's n.U (under table) or the complement of n.O (over table).
-pub fn recorded(
+fn recorded_frame(
     form: Form,
     frame: usize,
     word: u64,
@@ -73,6 +73,27 @@ pub fn recorded(
     }
 }
 
+// The same of node i. Records are of frames: of a quantifier behind them, a question's, there is none.
+pub fn recorded(
+    net: &[u64],
+    i: usize,
+    word: u64,
+    under: &[u32],
+    over: &[u32],
+    kept: Counts,
+) -> Known
+    requires { ⌜ Ground (now net) × (recordStart (netForm (now net)) (kept .under) ≤ length (now under)) × (recordStart (netForm (now net)) (kept .over) ≤ length (now over)) ⌝ }
+    ensures { λ r. ⌜ Recorded (netForm (now (net .entry))) i word (now (under .entry)) (kept .under) (now (over .entry)) (kept .over) (r .value) (r .reason) ⌝ }
+{
+    if i < net::frames(net) {
+        return recorded_frame(net::form(net), i, word, under, over, kept);
+    }
+    Known {
+        value: 0,
+        reason: 0,
+    }
+}
+
 // What the search of its body shows of a quantifier.
 pub fn body_shows(node: Node, found: bool, reason: u64) -> Known
     ensures { λ r. ⌜ Shown (node .op) (node .mask) found reason (r .value) (r .reason) ⌝ }
@@ -91,7 +112,7 @@ pub fn body_shows(node: Node, found: bool, reason: u64) -> Known
 }
 
 // Keeps that the frame has the value wherever the variables of the reason are as in the word: source 000's update of U (MBU) or of O (MBO).
-pub fn note(
+fn note_frame(
     form: Form,
     frame: usize,
     known: Known,
@@ -117,4 +138,23 @@ pub fn note(
         under: kept.under,
         over: n,
     }
+}
+
+// The same of node i. Of a quantifier behind the frames nothing is kept.
+pub fn note(
+    net: &[u64],
+    i: usize,
+    known: Known,
+    word: u64,
+    under: &mut [u32],
+    over: &mut [u32],
+    kept: Counts,
+) -> Counts
+    requires { ⌜ Ground (now net) × (recordStart (netForm (now net)) (kept .under) ≤ length (now under)) × (recordStart (netForm (now net)) (kept .over) ≤ length (now over)) × (0 < known .value) × (known .value < 3) ⌝ }
+    ensures { λ r. ⌜ (Tables (netForm (now (net .entry))) (formulaAt (now (net .entry))) (framesOf (now (net .entry))) (now (under .entry)) (kept .under) (now (over .entry)) (kept .over) → Explains (formulaAt (now (net .entry)) i) (val (known .value)) (bit (known .reason)) (bit word) → TablesGrown (netForm (now (net .entry))) (formulaAt (now (net .entry))) (framesOf (now (net .entry))) (now (under .entry)) (kept .under) (now (over .entry)) (kept .over) (now (under .exit)) (r .under) (now (over .exit)) (r .over) × (i < framesOf (now (net .entry)) → Noted (netForm (now (net .entry))) i (known .value) word (now (under .exit)) (r .under) (now (over .exit)) (r .over))) ⌝ }
+{
+    if i >= net::frames(net) {
+        return kept;
+    }
+    note_frame(net::form(net), i, known, word, under, over, kept)
 }

@@ -1,24 +1,22 @@
 -- Whether the matrix of a question is neither always true nor always false, as its codes and one question to the solver tell. Assumes nothing.
-use Prim.Native.Nat.{ℕ, _≤_, _<_}
-use native.Mathlib.Omega.{arith}
-use mathlib.Core.Bool.{Bool, true, false, _&&_}
+use Prim.Native.Nat.{ℕ, _≤_}
+use mathlib.Core.Bool.{Bool, true, false}
 use mathlib.Core.List.{List}
 use mathlib.Core.Path.{_≡_, sym, ap, subst, _∙_}
-use lib.Dec.{ltb}
 use lib.ListN.{length}
 use Rattle.words.specs.Logic.{clash}
 use Rattle.words.specs.Word.{bit, bit-none, ext}
 use Rattle.words.specs.Mask.{none-sub}
-use Rattle.formula.specs.Assignment.{Assignment}
-use Rattle.formula.specs.Formula.{truth}
-use Rattle.formula.specs.Ask.{freeMask, bit-free, ask, ask-some, ask-never, Entries}
+use Rattle.formula.specs.Ask.{Verdict, freeMask, bit-free, ask, ask-some, ask-never, Entries}
+use Rattle.formula.specs.Gauges.{verdict}
+use Rattle.formula.specs.GaugeLaws.{verdict-none}
 use Rattle.sheet.specs.Fields.{Sheet, narrow, kind}
-use Rattle.sheet.specs.Rules.{binds}
+use Rattle.sheet.specs.Rules.{binds, gauges}
 use Rattle.sheet.specs.Accepted.{ordered-bounded}
 use Rattle.records.specs.Both.{tables-none}
 use Rattle.net.specs.Layout.{freeOf}
 use Rattle.net.specs.Sheet.{Checked, NetOf, checked-net}
-use Rattle.solver.specs.Contract.{last, root, Ready, Same}
+use Rattle.solver.specs.Contract.{last, root, Ready, verdictOf, Same}
 use Rattle.prenex.specs.Question.{Clause, matrixTruth, occurs, Contingent}
 use Rattle.prenex.specs.Kinds.{matrixKinds, sheetBytes}
 use Rattle.prenex.specs.Code.{Codes, clausesOf, allOpposed}
@@ -85,10 +83,17 @@ module _ {codes frames : List ℕ} (m : Matrix codes frames) where
         closed = λ k v h t. clash (binds (kind matrix k) v) t (of-sheet .unbound k v h);
       })
 
+  -- and none of them is a gauge
+  pub matrix-ungauged : 0 ≡ gauges (narrow frames)
+  matrix-ungauged = sym (ap (λ (s : List ℕ). gauges (narrow s)) (m .frames-are) ∙ of-sheet .ungauged)
+
+  asked : verdictOf (narrow frames) 0 0 ≡ ask 32 (root matrix) 0 0
+  asked = ap (λ (s : List ℕ). verdictOf (narrow s) 0 0) (m .frames-are) ∙ ap (λ (g : ℕ). verdict 32 (root matrix) g 0 0) (of-sheet .ungauged) ∙ verdict-none entries
+
   -- false under some assignment: the answer tells whether it is true under another
-  pub judged-asked : {holds : Bool} {word : ℕ} → allOpposed clauses ≡ false → Same (ask 32 (root (narrow frames)) 0 0) holds word → Judged clauses holds
+  pub judged-asked : {holds : Bool} {word : ℕ} → allOpposed clauses ≡ false → Same (verdictOf (narrow frames) 0 0) holds word → Judged clauses holds
   judged-asked {holds} {word} e a =
-      let h : holds ≡ ask 32 (root matrix) 0 0 .holds = a .holds ∙ ap (λ (s : List ℕ). ask 32 (root (narrow s)) 0 0 .holds) (m .frames-are) in
+      let h : holds ≡ ask 32 (root matrix) 0 0 .holds = a .holds ∙ ap (λ (v : Verdict). v .holds) asked in
       record {
         is-contingent = λ t.
             let f = ask-some 32 (root matrix) 0 0 (sym h ∙ t) in

@@ -1,19 +1,19 @@
 -- A run is accepted exactly if the rules for its inputs are kept. Assumes nothing.
 use Prim.Native.Nat.{ℕ, _%_, _≤_, _<_}
 use native.Mathlib.Omega.{arith}
-use mathlib.Core.Path.{_≡_, sym, ap, subst, _∙_}
-use mathlib.Core.Bool.{Bool, true, false, not, _||_}
+use mathlib.Core.Path.{_≡_, sym, ap, _∙_}
+use mathlib.Core.Bool.{Bool, false, not, _||_}
 use mathlib.Core.Logic.{_↔_}
 use mathlib.Core.List.{List, _++_, append-assoc}
 use lib.ListN.{length}
 use lib.Dec.{eqb, ltb}
 use borrow.Author.Tests.{eq-eqb, eqb-true, le-ltb, ltb-false}
-use Rattle.words.specs.Logic.{by-bool, or-false, not-false}
+use Rattle.words.specs.Logic.{or-false, not-false}
 use Rattle.form.specs.Form.{answerStart}
 use Rattle.form.specs.declared.Form.{Form}
 use Rattle.sheet.specs.Fields.{Sheet}
-use Rattle.sheet.specs.Cause.{Cause, Refusal, accepted, someHolds, Numbered, Foremost, some-append, numbered-append, none-first, first-none, foremost-exactly}
-use Rattle.sheet.specs.Rules.{lengthCauses, sizeCauses, frameCauses}
+use Rattle.sheet.specs.Cause.{Cause, accepted, someHolds, Numbered, Foremost, some-append, numbered-append, none-first, first-none, foremost-exactly}
+use Rattle.sheet.specs.Rules.{sizeCauses, frameCauses}
 use Rattle.sheet.specs.RuleLaws.{size-numbered, frame-numbered}
 use Rattle.sheet.specs.Keeps.{Keeps}
 use Rattle.sheet.specs.Accepted.{none-keeps, keeps-none}

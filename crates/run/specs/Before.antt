@@ -5,6 +5,7 @@ use mathlib.Core.List.{List, []}
 use Rattle.formula.specs.Ask.{Entries}
 use Rattle.sheet.specs.Cause.{Refusal}
 use Rattle.sheet.specs.Fields.{Sheet, variables}
+use Rattle.sheet.specs.Rules.{gauges}
 use Rattle.sheet.specs.Keeps.{Keeps}
 use Rattle.sheet.specs.Accepted.{Accepted, accepted-exactly, accepted-sheet}
 use Rattle.solver.specs.Contract.{last, root}
@@ -25,6 +26,6 @@ before-entered sheet script i = after-keeps (book sheet) [] script (none-entered
 pub book-entries : (sheet : Sheet) (es : List Entry) → Keeps sheet → Entered (book sheet) es → Entries (variables sheet) (root sheet) (enteredMask es) (enteredValues es)
 book-entries sheet es K d = record {
   bounded = kept-accepted sheet K .bounded (last sheet);
-  opened = mask-free (variables sheet) (root sheet) d;
+  opened = mask-free (variables sheet) (root sheet) (gauges sheet) d;
   valued = values-mask es;
 }

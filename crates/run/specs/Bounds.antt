@@ -1,4 +1,4 @@
--- How large a run's refusal can be: its number is at most 11, and its place is that of a frame. So on a narrow sheet both fit a byte. Assumes nothing.
+-- How large a run's refusal can be: its number is at most 23, and its place is that of a frame. So on a narrow sheet both fit a byte. Assumes nothing.
 use Prim.Native.Nat.{ℕ, _≤_, _<_}
 use native.Mathlib.Omega.{arith}
 use mathlib.Core.List.{List}
@@ -35,7 +35,7 @@ module _ (sheet : Sheet) (script : List ℕ) (bytes : ℕ) where
       (within-append most (roomCauses (sheet .form) script bytes) _ (room-within most some (sheet .form) script bytes)
       (frames-within most some sheet (none-sized sheet e .most))))))
 
-  pub number-most : refusal sheet script bytes .number ≤ 11
+  pub number-most : refusal sheet script bytes .number ≤ 23
   number-most = refusal-small .number
 
   pub place-below : refusal sheet script bytes .place < mostFrames sheet

@@ -2,30 +2,34 @@
 use Prim.Native.Nat.{ℕ, _+_, _≤_, _<_}
 use native.Mathlib.Omega.{arith}
 use mathlib.Core.Path.{_≡_, sym, ap, _∙_}
-use mathlib.Core.Bool.{false}
+use mathlib.Core.Bool.{true, false}
 use mathlib.Core.Logic.{_↔_}
 use mathlib.Core.List.{List, [], _++_}
 use lib.ListN.{length, take, drop, length-append, length-drop}
 use lib.Seq.{take-append-le, drop-append-le, drop-at}
+use Rattle.words.specs.Word.{bit}
+use Rattle.words.specs.Mask.{Sub}
 use Rattle.formula.specs.Ask.{Verdict, ask}
-use Rattle.formula.specs.Why.{why}
 use Rattle.sheet.specs.Cause.{Refusal, Foremost}
 use Rattle.form.specs.Form as Sizes
 use Rattle.form.specs.Form.{answerStart, answer-before}
 use Rattle.form.specs.declared.Form.{Form}
-use Rattle.sheet.specs.Fields.{Sheet, variables}
+use Rattle.sheet.specs.Fields.{Sheet, frames, variables, kind}
+use Rattle.sheet.specs.Rules.{gauges}
+use Rattle.sheet.specs.Gauges.{gauge-named, some-gauge}
+use Rattle.sheet.specs.declared.Kind.the-variants.{Gauge}
 use Rattle.solver.specs.Contract.{root, Tables}
 use Rattle.session.specs.Model.{enteredMask, enteredValues, Reply, answerBytes, refused, judged, TAKE-BACK, WHY, lines, lineAt, answerAt, answers, meaning}
 use Rattle.session.specs.Line.{refused-same, refused-answer}
 use Rattle.session.specs.Kinds.{ask-taken, why-taken}
 use Rattle.session.specs.Script.{after-next, length-answers, answer-bytes}
-use Rattle.session.specs.Step.{searches}
+use Rattle.session.specs.Step.{askOf, whyOf, searches}
 use Rattle.run.specs.Run.{refusal, causes, book, before, kindAt, Taken, Asked, Held, asLent, Grows, Promised-at}
 use Rattle.run.specs.History.{RecordsTrue, lent-true, promised-grows, history-true, history-grows}
 use Rattle.run.specs.Call.{Call, Meets}
 use Rattle.run.specs.Accept.{Proper, number-proper, proper-accepted, refused-foremost}
 use Rattle.run.specs.Before.{before-entered}
-use Rattle.run.specs.Verdicts.{Decides, Reason, ask-decides, why-reason}
+use Rattle.run.specs.Verdicts.{waits, Decides, Chooses, Reason, Gauged, askedWith, Assures, GaugedReason, asked-decides, asked-with, calm-ask, calm-chooses, ungauged-calm, ungauged-reason, gauged-reason}
 
 -- the bytes that a call over a sheet of the form leaves for line i: six, or ten
 abbrev pub lineBytes : Form → Call → ℕ → List ℕ
@@ -86,29 +90,82 @@ module _ (sheet : Sheet) (script : List ℕ) (o : Call) (R : Meets sheet script 
 
     -- ---- condition 2
 
-    -- At every ASK of the script that is not refused, with the entries that then stand: the verdict is yes exactly if some assignment that agrees with
-    -- them makes the sheet's formula true, and the word is the smallest such word; on no it is 0.
-    pub asked-decided : (i : ℕ) → Asked sheet script i → (a : Verdict) × (lineBytes F o i ≡ answerBytes F (judged a)) × Decides (variables sheet) (root sheet) (before sheet script i) a
+    -- what ASK and WHY mean with the entries that stand before line i
+    abbrev verdictAt : ℕ → Verdict
+    verdictAt i = askOf sheet (before sheet script i)
+
+    abbrev reasonAt : ℕ → Verdict
+    reasonAt i = whyOf sheet (before sheet script i)
+
+    ask-bytes : (i : ℕ) → Asked sheet script i → lineBytes F o i ≡ answerBytes F (judged (verdictAt i))
     unfolding answerAt lineAt meaning
+    ask-bytes i q = one-answer i (q .line) ∙ ap (λ (r : Reply). answerBytes F (r .answer)) (ask-taken (book sheet) (before sheet script i) _ _ _ _ (q .taken) (q .kind))
+
+    why-bytes : (i : ℕ) → Taken WHY sheet script i → lineBytes F o i ≡ answerBytes F (judged (reasonAt i))
+    unfolding answerAt lineAt meaning
+    why-bytes i q = one-answer i (q .line) ∙ ap (λ (r : Reply). answerBytes F (r .answer)) (why-taken (book sheet) (before sheet script i) _ _ _ _ (q .taken) (q .kind))
+
+    -- A variable is a gauge of the sheet exactly if a frame of kind 07 names it, reached or not.
+    pub gauge-exactly : (x : ℕ) → (bit (gauges sheet) x ≡ true) ↔ ((j : ℕ) × (j < frames sheet) × (kind sheet j ≡ Gauge x))
+    gauge-exactly x = (gauge-named sheet x, λ r. some-gauge sheet (kept .sheet-kept) (r .0) x (r .1) (r .2))
+
+    -- At every ASK of the script that is not refused, with the entries that then stand: the verdict is yes exactly if, for every setting of the open gauges
+    -- that are not entered, some setting of the other open variables that are not entered makes the sheet's formula true. On yes the word is the smallest
+    -- with those gauges at 0; on no it holds their smallest failing setting and nothing else.
+    pub asked-decided : (i : ℕ) → Asked sheet script i
+        → (a : Verdict) × (lineBytes F o i ≡ answerBytes F (judged a)) × Decides (variables sheet) (root sheet) (gauges sheet) (before sheet script i) a
     asked-decided i q =
+        (verdictAt i, ask-bytes i q, asked-decides sheet (before sheet script i) (kept .sheet-kept) (before-entered sheet script i))
+
+    -- Where no open gauge waits to be entered, ASK is as document 01 has it: the verdict is yes exactly if some assignment that agrees with the entries
+    -- makes the sheet's formula true, and the word is the smallest such word; on no it is 0. It is `ask` of formula/specs/Ask.antt.
+    pub plain-decided : (i : ℕ) → Asked sheet script i → ((k : ℕ) → waits (root sheet) (gauges sheet) (before sheet script i) k ≡ false)
+        → (a : Verdict) × (lineBytes F o i ≡ answerBytes F (judged a)) × Chooses (variables sheet) (root sheet) (before sheet script i) a
+        × (a ≡ ask (variables sheet) (root sheet) (enteredMask (before sheet script i)) (enteredValues (before sheet script i)))
+    plain-decided i q c =
         let es = before sheet script i in (
-          ask (variables sheet) (root sheet) (enteredMask es) (enteredValues es),
-          one-answer i (q .line) ∙ ap (λ (r : Reply). answerBytes F (r .answer)) (ask-taken (book sheet) es _ _ _ _ (q .taken) (q .kind)),
-          ask-decides sheet es (kept .sheet-kept) (before-entered sheet script i),
+          verdictAt i,
+          ask-bytes i q,
+          calm-chooses sheet es (kept .sheet-kept) (before-entered sheet script i) c,
+          calm-ask sheet es (kept .sheet-kept) (before-entered sheet script i) c,
         )
 
-    -- At every WHY that is not refused: the verdict is that of an ASK there, the variables marked force it, and none of them is idle.
-    pub reason-minimal : (i : ℕ) → Taken WHY sheet script i
-        → (a : Verdict) × (r : Verdict) × (lineBytes F o i ≡ answerBytes F (judged r)) × Decides (variables sheet) (root sheet) (before sheet script i) a × Reason (root sheet) (before sheet script i) a r
-    unfolding answerAt lineAt meaning
-    reason-minimal i q =
+    -- On a sheet with no frame of kind 07 no gauge ever waits.
+    pub ungauged-plain : (Gauged sheet → ⊥) → (i k : ℕ) → waits (root sheet) (gauges sheet) (before sheet script i) k ≡ false
+    ungauged-plain u i = ungauged-calm sheet (before sheet script i) (kept .sheet-kept) (before-entered sheet script i) u
+
+    -- At every WHY that is not refused, on a sheet with no frame of kind 07: the verdict is that of an ASK there, the variables marked force it, and none of
+    -- them is idle.
+    pub reason-minimal : (Gauged sheet → ⊥) → (i : ℕ) → Taken WHY sheet script i
+        → (a : Verdict) × (r : Verdict) × (lineBytes F o i ≡ answerBytes F (judged r)) × Chooses (variables sheet) (root sheet) (before sheet script i) a × Reason (root sheet) (before sheet script i) a r
+    reason-minimal u i q =
         let es = before sheet script i in (
-          ask (variables sheet) (root sheet) (enteredMask es) (enteredValues es),
-          why (variables sheet) (root sheet) (enteredMask es) (enteredValues es),
-          one-answer i (q .line) ∙ ap (λ (r : Reply). answerBytes F (r .answer)) (why-taken (book sheet) es _ _ _ _ (q .taken) (q .kind)),
-          ask-decides sheet es (kept .sheet-kept) (before-entered sheet script i),
-          why-reason sheet es (kept .sheet-kept) (before-entered sheet script i),
+          verdictAt i,
+          reasonAt i,
+          why-bytes i q,
+          calm-chooses sheet es (kept .sheet-kept) (before-entered sheet script i) (ungauged-plain u i),
+          ungauged-reason sheet es (kept .sheet-kept) (before-entered sheet script i) u,
         )
+
+    -- And on a sheet with such a frame, reached or not: the verdict is that of an ASK there; the variables marked are entered ones, and it is the same for
+    -- all values of the other entered variables; none of those marked is idle.
+    pub reason-gauged : Gauged sheet → (i : ℕ) → Taken WHY sheet script i
+        → (a : Verdict) × (r : Verdict) × (lineBytes F o i ≡ answerBytes F (judged r)) × Decides (variables sheet) (root sheet) (gauges sheet) (before sheet script i) a
+        × GaugedReason (variables sheet) (root sheet) (gauges sheet) (before sheet script i) a r
+    reason-gauged g i q =
+        let es = before sheet script i in (
+          verdictAt i,
+          reasonAt i,
+          why-bytes i q,
+          asked-decides sheet es (kept .sheet-kept) (before-entered sheet script i),
+          gauged-reason sheet es (kept .sheet-kept) (before-entered sheet script i) g,
+        )
+
+    -- The verdict with other values entered, of which `GaugedReason` speaks, is yes exactly if, for every assignment with those values, some assignment with
+    -- the same waiting gauges has them too and makes the sheet's formula true.
+    pub revalued-decided : (i y : ℕ) → Sub y (enteredMask (before sheet script i))
+        → (askedWith (variables sheet) (root sheet) (gauges sheet) (before sheet script i) y ≡ true) ↔ Assures (root sheet) (gauges sheet) (before sheet script i) y
+    revalued-decided i = asked-with sheet (before sheet script i) (kept .sheet-kept) (before-entered sheet script i)
 
     -- ---- the records
 
@@ -141,7 +198,8 @@ module _ (sheet : Sheet) (script : List ℕ) (o : Call) (R : Meets sheet script 
     pub back-records : (i : ℕ) → Taken TAKE-BACK sheet script i → records (i + 1) ≡ records i
     back-records i t = quiet-records i (t .line) (rw (t .kind))
 
-    -- After each ASK that is answered the table concerned is full or holds the record that document 01 promises; it does so at exit too.
+    -- After each ASK that is answered the table concerned is full or holds the record that document 01 promises, which on no may use the gauges of the
+    -- word, too (document 02); it does so at exit too.
     pub asked-promised : (i : ℕ) → Asked sheet script i → Promised-at sheet script i (records (i + 1))
     asked-promised i a = R .recorded accepted .each i (omega (arith, a .line)) .promised a
 

@@ -29,7 +29,7 @@ first-at-zero (c ∷ cs) z = by-bool (c .holds) (λ e. rw e (z .0)) (λ e. rw e 
 
 module _ (cs ds : List Cause) (s : Sheet) where
   -- a cause of the earlier list holds
-  earlier-checks : AtZero cs → {number : ℕ} → number ≡ first cs .number → (number ≡ 0 → ⊥) → Checks (cs ++ ds) s number 0 0
+  earlier-checks : AtZero cs → {number : ℕ} → number ≡ first cs .number → (number ≡ 0 → ⊥) → Checks (cs ++ ds) s number 0 0 0
   earlier-checks z {number} e f =
       let h = by-bool (someHolds cs) (λ t. t) (λ t. absurd (f (e ∙ ap (λ (r : Refusal). r .number) (none-first cs t)))) in
       let q = first-earlier cs ds h in
@@ -37,10 +37,11 @@ module _ (cs ds : List Cause) (s : Sheet) where
         number-is = e ∙ ap (λ (r : Refusal). r .number) (sym q);
         place-is = sym (first-at-zero cs z) ∙ ap (λ (r : Refusal). r .place) (sym q);
         free-is = rw (some-append cs ds, h);
+        gauges-are = rw (some-append cs ds, h);
       }
 
   -- none of them does
-  later-checks : Numbered cs → first cs .number ≡ 0 → {number place free : ℕ} → Checks ds s number place free → Checks (cs ++ ds) s number place free
+  later-checks : Numbered cs → first cs .number ≡ 0 → {number place free gauges : ℕ} → Checks ds s number place free gauges → Checks (cs ++ ds) s number place free gauges
   later-checks n e c =
       let h = first-none cs n e in
       let q = first-later cs ds h in
@@ -48,6 +49,7 @@ module _ (cs ds : List Cause) (s : Sheet) where
         number-is = c .number-is ∙ ap (λ (r : Refusal). r .number) (sym q);
         place-is = c .place-is ∙ ap (λ (r : Refusal). r .place) (sym q);
         free-is = c .free-is ∙ rw (some-append cs ds, h);
+        gauges-are = c .gauges-are ∙ rw (some-append cs ds, h);
       }
 
 -- there is room for n answers exactly if so many fit
@@ -72,7 +74,7 @@ module _ (sheet : Sheet) (script : List ℕ) (room : ℕ) where
   script-at-zero = (refl, (refl, (refl, tt)))
 
   -- the sheet's size refuses
-  pub size-checks : {number : ℕ} → number ≡ first (sizeCauses sheet) .number → (number ≡ 0 → ⊥) → Checks (causes sheet script room) sheet number 0 0
+  pub size-checks : {number : ℕ} → number ≡ first (sizeCauses sheet) .number → (number ≡ 0 → ⊥) → Checks (causes sheet script room) sheet number 0 0 0
   size-checks e f = earlier-checks (sizeCauses sheet) _ sheet size-at-zero e f
 
   -- it does not
@@ -80,16 +82,16 @@ module _ (sheet : Sheet) (script : List ℕ) (room : ℕ) where
     pub size-none : someHolds (sizeCauses sheet) ≡ false
     size-none = first-none (sizeCauses sheet) (size-numbered sheet) (sym sized ∙ none)
 
-    after-size : {number place free : ℕ} → Checks (between ++ frameCauses sheet) sheet number place free
-        → Checks (causes sheet script room) sheet number place free
+    after-size : {number place free gauges : ℕ} → Checks (between ++ frameCauses sheet) sheet number place free gauges
+        → Checks (causes sheet script room) sheet number place free gauges
     after-size c = later-checks (sizeCauses sheet) _ sheet (size-numbered sheet) (sym sized ∙ none) (rw append-assoc at c)
 
     -- the script or the room refuses
     pub script-checks : {number : ℕ} → number ≡ first between .number → (number ≡ 0 → ⊥)
-        → Checks (causes sheet script room) sheet number 0 0
+        → Checks (causes sheet script room) sheet number 0 0 0
     script-checks e f = after-size (earlier-checks between (frameCauses sheet) sheet script-at-zero e f)
 
     -- neither does: the frames decide
-    pub frames-checks : {fault number place free : ℕ} → fault ≡ first between .number → fault ≡ 0
-        → Checks (frameCauses sheet) sheet number place free → Checks (causes sheet script room) sheet number place free
+    pub frames-checks : {fault number place free gauges : ℕ} → fault ≡ first between .number → fault ≡ 0
+        → Checks (frameCauses sheet) sheet number place free gauges → Checks (causes sheet script room) sheet number place free gauges
     frames-checks e z c = after-size (later-checks between (frameCauses sheet) sheet (run-numbered (sheet .form) script room) (sym e ∙ z) c)

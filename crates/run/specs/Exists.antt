@@ -9,22 +9,26 @@ use mathlib.Core.List.{List, [], _++_}
 use lib.ListN.{length, drop}
 use lib.Seq.{sets}
 use lib.Dec.{eqb, ltb}
+use lib.Bits.{bitOr}
 use borrow.Author.Tests.{eq-eqb, eqb-true}
 use Rattle.words.specs.Logic.{by-bool, clash, and-both, and-intro, tests}
 use Rattle.words.specs.Word.{bit}
-use Rattle.words.specs.Mask.{Sub, sub-refl, sub-trans, sub-lt, sub-bits, bits-sub, bits-agree}
+use Rattle.words.specs.Mask.{Sub, sub-refl, sub-trans, sub-lt, sub-bits, bits-sub, bits-agree, sub-or-left, sub-or-right}
 use Rattle.formula.specs.Formula.{Formula, free}
 use Rattle.formula.specs.Reason.{Explains, explains-all, explains-mask}
-use Rattle.formula.specs.Ask.{Verdict, freeMask, ask, Entries, freeMask-lt, bit-free, ask-word, ask-never}
+use Rattle.formula.specs.Ask.{Verdict, freeMask, Entries, freeMask-lt, bit-free}
+use Rattle.formula.specs.Gauges.{unread, verdict}
+use Rattle.formula.specs.GaugeLaws.{set-entered, set-gauges, set-entries, verdict-smallest, verdict-failing}
 use Rattle.form.specs.Form.{room, recordStart, wordEnd, answerStart, end-power}
 use Rattle.form.specs.declared.Form.{Form}
 use Rattle.sheet.specs.Fields.{Sheet, frames, variables}
+use Rattle.sheet.specs.Rules.{gauges}
 use Rattle.sheet.specs.Keeps.{Keeps}
 use Rattle.records.specs.Layout.{numbers}
 use Rattle.records.specs.Table.{grown-refl}
 use Rattle.records.specs.Both.{tables-same}
 use Rattle.records.specs.Put.{Put, put-next, put-full, valid-put, kept-put}
-use Rattle.solver.specs.Contract.{last, root}
+use Rattle.solver.specs.Contract.{last, root, verdictOf, unreadOf}
 use Rattle.session.specs.Model.{enteredMask, enteredValues, ASK, lines, answerAt, answers}
 use Rattle.session.specs.Step.{searches}
 use Rattle.run.specs.Run.{refusal, book, before, kindAt, Held, asLent, Grows, Promised-at, LineRecords, History}
@@ -47,18 +51,36 @@ one-more F t count frame mask values m v = by-bool (ltb count (room F (length t)
 
 -- ---- the record that a verdict calls for is true
 
-module _ (n : ℕ) (f : Formula) (mask values : ℕ) (E : Entries n f mask values) where
-  yes-explains : ask n f mask values .holds ≡ true → Explains f true (bit (freeMask n f)) (bit (ask n f mask values .word))
+module _ (n : ℕ) (f : Formula) (g mask values : ℕ) (E : Entries n f mask values) where
+  -- ASK's answer, and the gauges that are open and not entered
+  abbrev answer : Verdict
+  answer = verdict n f g mask values
+
+  abbrev hidden : ℕ
+  hidden = unread n f g mask
+
+  yes-explains : answer .holds ≡ true → Explains f true (bit (freeMask n f)) (bit (answer .word))
   yes-explains e =
-      let w = ask n f mask values .word in
-      explains-mask (subst (λ (v : Bool). Explains f v (free f) (bit w)) (ask-word E e .holds) (explains-all f (bit w)))
+      let w = answer .word in
+      explains-mask (subst (λ (v : Bool). Explains f v (free f) (bit w)) (verdict-smallest g E e .holds) (explains-all f (bit w)))
       (bit (freeMask n f)) (λ k. sym (bit-free (E .bounded) k))
 
-  yes-inside : ask n f mask values .holds ≡ true → Sub (ask n f mask values .word) (freeMask n f)
-  yes-inside e = sub-bits (ask n f mask values .word) (freeMask n f) (λ k h. bit-free (E .bounded) k ∙ ask-word E e .stays k h)
+  yes-inside : answer .holds ≡ true → Sub (answer .word) (freeMask n f)
+  yes-inside e = sub-bits (answer .word) (freeMask n f) (λ k h. bit-free (E .bounded) k ∙ verdict-smallest g E e .stays k h)
 
-  no-explains : ask n f mask values .holds ≡ false → Explains f false (bit mask) (bit values)
-  no-explains e = record { inside = λ k h. sym (bit-free (E .bounded) k) ∙ bits-sub (E .opened) k h; forces = ask-never E e }
+  -- the entries, and the gauges at the setting that fails
+  no-entries : answer .holds ≡ false → Entries n f (bitOr mask hidden) (values + answer .word)
+  no-entries e = set-entries g E (answer .word) (verdict-failing g E e .inside)
+
+  no-explains : answer .holds ≡ false → Explains f false (bit (bitOr mask hidden)) (bit (values + answer .word))
+  no-explains e =
+      let W = verdict-failing g E e in
+      record {
+        inside = λ k h. sym (bit-free (E .bounded) k) ∙ bits-sub (no-entries e .opened) k h;
+        forces = λ σ a. W .fails σ
+            (λ k h. a k (bits-sub (sub-or-left mask hidden) k h) ∙ set-entered g E (answer .word) (W .inside) k h)
+            (λ k h. a k (bits-sub (sub-or-right mask hidden) k h) ∙ set-gauges g E (answer .word) (W .inside) k h);
+      }
 
 -- ---- line i
 
@@ -75,8 +97,11 @@ module _ (sheet : Sheet) (script : List ℕ) (K : Keeps sheet) (i : ℕ) where
   abbrev values : ℕ
   values = enteredValues (before sheet script i)
 
-  abbrev verdict : Verdict
-  verdict = ask n f mask values
+  abbrev g : ℕ
+  g = gauges sheet
+
+  abbrev asked : Verdict
+  asked = verdictOf sheet mask values
 
   entries : Entries n f mask values
   entries = book-entries sheet (before sheet script i) K (before-entered sheet script i)
@@ -121,25 +146,28 @@ module _ (sheet : Sheet) (script : List ℕ) (K : Keeps sheet) (i : ℕ) where
           };
         }
 
-    yes-next : asks ≡ true → verdict .holds ≡ true → Next h
+    yes-next : asks ≡ true → asked .holds ≡ true → Next h
     yes-next a e =
-        let s = yes-inside n f mask values entries e in
-        let G = one-more (sheet .form) (h .under) (h .cu) (last sheet) (freeMask n f) (verdict .word) (word-fits (sub-refl (freeMask n f))) (word-fits s) in
-        let valid = valid-put (t .under) (G .put) below s (yes-explains n f mask values entries e) in
+        let s = yes-inside n f g mask values entries e in
+        let G = one-more (sheet .form) (h .under) (h .cu) (last sheet) (freeMask n f) (asked .word) (word-fits (sub-refl (freeMask n f))) (word-fits s) in
+        let valid = valid-put (t .under) (G .put) below s (yes-explains n f g mask values entries e) in
         asked-next a (record { under = G .table; cu = G .count'; over = h .over; co = h .co })
         (record { tables = record { under = valid; over = t .over }; under = G .put .grown; over = grown-refl (sheet .form) (h .over) (h .co) }) (
-          λ y. kept-put (freeMask n f) (verdict .word) (G .put) (sub-refl (freeMask n f)) (bits-agree _ _ _ s (λ k i. refl)),
-          λ n. clash (verdict .holds) e n,
+          λ y. kept-put (freeMask n f) (asked .word) (G .put) (sub-refl (freeMask n f)) (bits-agree _ _ _ s (λ k i. refl)),
+          λ n. clash (asked .holds) e n,
         )
 
-    no-next : asks ≡ true → verdict .holds ≡ false → Next h
+    no-next : asks ≡ true → asked .holds ≡ false → Next h
     no-next a e =
-        let G = one-more (sheet .form) (h .over) (h .co) (last sheet) mask values (word-fits (entries .opened)) (word-fits (sub-trans (entries .valued) (entries .opened))) in
-        let valid = valid-put (t .over) (G .put) below (entries .valued) (no-explains n f mask values entries e) in
+        let m = bitOr mask (unreadOf sheet mask) in
+        let w = values + asked .word in
+        let E = no-entries n f g mask values entries e in
+        let G = one-more (sheet .form) (h .over) (h .co) (last sheet) m w (word-fits (E .opened)) (word-fits (sub-trans (E .valued) (E .opened))) in
+        let valid = valid-put (t .over) (G .put) below (E .valued) (no-explains n f g mask values entries e) in
         asked-next a (record { under = h .under; cu = h .cu; over = G .table; co = G .count' })
         (record { tables = record { under = t .under; over = valid }; under = grown-refl (sheet .form) (h .under) (h .cu); over = G .put .grown }) (
-          λ y. clash (verdict .holds) y e,
-          λ n. kept-put mask values (G .put) (sub-refl mask) (bits-agree _ _ _ (entries .valued) (λ k i. refl)),
+          λ y. clash (asked .holds) y e,
+          λ n. kept-put m w (G .put) (sub-refl m) (bits-agree _ _ _ (E .valued) (λ k i. refl)),
         )
 
     other-next : asks ≡ false → Next h
@@ -154,7 +182,7 @@ module _ (sheet : Sheet) (script : List ℕ) (K : Keeps sheet) (i : ℕ) where
     }
 
     some-next : Next h
-    some-next = by-bool asks (λ a. by-bool (verdict .holds) (yes-next a) (no-next a)) other-next
+    some-next = by-bool asks (λ a. by-bool (asked .holds) (yes-next a) (no-next a)) other-next
 
 -- ---- the first n lines
 

@@ -2,7 +2,7 @@
 use Prim.Native.Nat.{ℕ, zero, suc, _+_, _≤_, _<_}
 use native.Mathlib.Omega.{arith}
 use native.Mathlib.Numerals.{add-one}
-use mathlib.Core.Path.{_≡_, refl, sym, subst, _∙_}
+use mathlib.Core.Path.{_≡_, refl, _∙_}
 use mathlib.Core.Bool.{cond}
 use mathlib.Core.List.{List}
 use lib.Dec.{eqb, leb}
@@ -12,7 +12,7 @@ use Rattle.sheet.specs.Fields.{Sheet}
 use Rattle.records.specs.Table.{kept-grown}
 use Rattle.records.specs.Both.{tables-none, tables-same, tables-then}
 use Rattle.solver.specs.Contract.{Tables}
-use Rattle.run.specs.Run.{Held, asLent, Grows, Asked, Promised-at, LineRecords, History}
+use Rattle.run.specs.Run.{Held, asLent, Grows, Promised-at, LineRecords, History}
 
 -- every counted record is true
 abbrev pub RecordsTrue : Sheet → Held → Type 0

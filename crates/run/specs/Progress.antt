@@ -2,17 +2,19 @@
 use Prim.Native.Nat.{ℕ, _+_, _*_, _≤_, _<_}
 use native.Mathlib.Omega.{arith}
 use mathlib.Core.Path.{_≡_, refl, sym, ap, _∙_}
+use mathlib.Core.Bool.{false}
 use mathlib.Core.List.{List, [], _++_}
 use lib.ListN.{length, drop, getD, length-append, length-drop}
 use Rattle.form.specs.Form.{answersIn, answerStart, answer-none, answer-next, answers-fit, fit-answers}
 use Rattle.form.specs.declared.Form.{Form}
 use Rattle.sheet.specs.Fields.{Sheet, sheetOf}
-use Rattle.sheet.specs.Cause.{Refusal, first-none}
-use Rattle.sheet.specs.Check.{Checks}
+use Rattle.sheet.specs.Cause.{Refusal, someHolds}
+use Rattle.sheet.specs.Rules as Rules
+use Rattle.sheet.specs.Check.{Checks, checks-none, checks-free, checks-gauges}
 use Rattle.net.specs.Layout.{freeOf}
 use Rattle.net.specs.Sheet.{Checked, NetOf}
 use Rattle.session.specs.declared.Session.{Session}
-use Rattle.session.specs.Model.{Answer, answerBytes, lines, lineAt, line, answerAt, answersTo, answers}
+use Rattle.session.specs.Model.{Answer, answerBytes, lines, lineAt, answerAt, answersTo, answers}
 use Rattle.session.specs.Script.{answers-none, answers-next, length-answerBytes, length-answersTo}
 use Rattle.session.specs.Sound.{standingOf, Sound, OnNet, Empty, empty-sound}
 use Rattle.session.specs.Step.{Step, Tells, Untouched}
@@ -172,7 +174,7 @@ turns-asked k h t =
 
 -- ---- the whole run
 
-module _ (s : Sheet) (script ans : List ℕ) {number place free : ℕ} (c : Checks (causes s script (length ans)) s number place free) where
+module _ (s : Sheet) (script ans : List ℕ) {number place free gauges : ℕ} (c : Checks (causes s script (length ans)) s number place free gauges) where
   -- no cause holds
   module _ (e : number ≡ 0) where
     proper : Proper s script (length ans)
@@ -181,18 +183,23 @@ module _ (s : Sheet) (script ans : List ℕ) {number place free : ℕ} (c : Chec
     pub run-room : lines script ≤ answersIn (s .form) (length ans)
     run-room = fit-answers (s .form) (proper .room)
 
+    none : someHolds (causes s script (length ans)) ≡ false
+    none = checks-none c (causes-numbered s script (length ans)) e
+
     pub run-checked : Checked s free
     run-checked =
         let A = kept-accepted s (proper .sheet-kept) in
-        let n = first-none (causes s script (length ans)) (causes-numbered s script (length ans)) (sym (c .number-is) ∙ e) in
         record {
           ordered = A .ordered;
           some = A .sized .least;
           few = A .sized .most;
-          opens = c .free-is ∙ rw n;
+          opens = checks-free c none;
           once = proper .sheet-kept .once;
           closed = proper .sheet-kept .closed;
         }
+
+    pub run-gauged : gauges ≡ Rules.gauges s
+    run-gauged = checks-gauges c none
 
     pub run-accepted : {open-word : ℕ} {under over : List ℕ} {x : Session} {ans' u o : List ℕ} → Progress s script open-word ans under over (lines script) x ans' u o
         → Run s script ans under over ans' u o 0 0 (x .under) (x .over)

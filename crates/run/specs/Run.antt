@@ -5,14 +5,13 @@ use mathlib.Core.Bool.{false, not}
 use mathlib.Core.List.{List, [], _∷_, _++_}
 use lib.ListN.{length, getD, drop}
 use lib.Dec.{eqb, ltb}
-use Rattle.formula.specs.Ask.{ask}
 use Rattle.sheet.specs.Refusal as Number
 use Rattle.sheet.specs.Cause.{Cause, Refusal, first}
 use Rattle.form.specs.Form.{answerStart}
 use Rattle.form.specs.declared.Form.{Form}
-use Rattle.sheet.specs.Fields.{Sheet, variables}
+use Rattle.sheet.specs.Fields.{Sheet}
 use Rattle.sheet.specs.Rules.{cause, sizeCauses, frameCauses}
-use Rattle.solver.specs.Contract.{root, TablesGrown, Promised}
+use Rattle.solver.specs.Contract.{verdictOf, TablesGrown, Promised}
 use Rattle.session.specs.declared.Entry.{Entry}
 use Rattle.session.specs.Sound.{sheetMeaning}
 use Rattle.session.specs.Step.{searches}
@@ -39,7 +38,7 @@ refusal sheet script bytes = first (causes sheet script bytes)
 
 -- ---- what a line of the script means
 
--- what the reference model takes from a sheet: the meaning of its last frame
+-- what the reference model takes from a sheet: the meaning of its last frame, with the sheet's gauges
 abbrev pub book : Sheet → Meaning
 book sheet = sheetMeaning sheet
 
@@ -81,7 +80,7 @@ Grows sheet h h' = TablesGrown sheet (h .under) (h .cu) (h .over) (h .co) (h' .u
 abbrev pub Promised-at : Sheet → List ℕ → ℕ → Held → Type 0
 Promised-at sheet script i h =
     let es = before sheet script i in
-    Promised sheet (enteredMask es) (enteredValues es) (ask (variables sheet) (root sheet) (enteredMask es) (enteredValues es)) (h .under) (h .cu) (h .over) (h .co)
+    Promised sheet (enteredMask es) (enteredValues es) (verdictOf sheet (enteredMask es) (enteredValues es)) (h .under) (h .cu) (h .over) (h .co)
 
 -- what line i makes of the records h before it: h' after it
 pub record LineRecords (sheet : Sheet) (script : List ℕ) (i : ℕ) (h h' : Held) : Type 0 where

@@ -10,6 +10,7 @@ use Rattle.form.specs.Form.{answerStart, few-variables}
 use Rattle.form.specs.declared.Form.{Form}
 use Rattle.sheet.specs.Cause.{Refusal}
 use Rattle.sheet.specs.Fields.{Sheet, variables}
+use Rattle.sheet.specs.Rules.{gauges}
 use Rattle.sheet.specs.Keeps.{Keeps}
 use Rattle.solver.specs.Contract.{root}
 use Rattle.session.specs.declared.Entry.{Entry}
@@ -112,7 +113,7 @@ module _ (sheet : Sheet) (a b : List ℕ) (K : Keeps sheet) (A : Earlier a) (B :
   -- where the entries first differ, a READ of that place tells the two apart
   pub difference-read : (i : ℕ) → FirstDifference (standing m a) (standing m b) i → (i < 256) × ReadApart sheet a b i
   difference-read i D =
-      let h : i < 256 = omega (arith, D .reach, entries-at-most (variables sheet) (root sheet) (standing-keeps m a), few-variables (sheet .form)) in
+      let h : i < 256 = omega (arith, D .reach, entries-at-most (variables sheet) (root sheet) (gauges sheet) (standing-keeps m a), few-variables (sheet .form)) in
       let F = read-further i h in (
         h,
         λ o p O P e. read-shows (sheet .form) (standing-keeps m a) (standing-keeps m b) i D

@@ -46,9 +46,9 @@ fn script_fault(form: Form, script: &[u8], room: usize) -> u8
     0
 }
 
-// The run's refusal, in document 01's order, or none, with the free variables of the sheet's last frame.
+// The run's refusal, in document 01's order, or none, with the free variables of the sheet's last frame and the sheet's gauges.
 fn check(sheet: &[u8], form: Form, script: &[u8], room: usize) -> sheet::Checked
-    ensures { λ r. ⌜ Checks (causes (sheetOf form (now (sheet .entry))) (now (script .entry)) room) (sheetOf form (now (sheet .entry))) (r .number) (r .place) (r .free) ⌝ }
+    ensures { λ r. ⌜ Checks (causes (sheetOf form (now (sheet .entry))) (now (script .entry)) room) (sheetOf form (now (sheet .entry))) (r .number) (r .place) (r .free) (r .gauges) ⌝ }
 {
     let size = sheet::size_fault(form, sheet.len());
     if size != 0 {
@@ -56,6 +56,7 @@ fn check(sheet: &[u8], form: Form, script: &[u8], room: usize) -> sheet::Checked
             number: size,
             place: 0,
             free: 0,
+            gauges: 0,
         };
     }
     let fault = script_fault(form, script, room);
@@ -64,6 +65,7 @@ fn check(sheet: &[u8], form: Form, script: &[u8], room: usize) -> sheet::Checked
             number: fault,
             place: 0,
             free: 0,
+            gauges: 0,
         };
     }
     sheet::check_frames(sheet, form)
@@ -182,7 +184,7 @@ fn run_form(
             over: 0,
         };
     }
-    net::load(sheet, wide, checked.free, net);
+    net::load(sheet, wide, checked.free, checked.gauges, net);
     let last = run_lines(wide, net, script, answers, under, over);
     Ran {
         number: 0,
@@ -202,7 +204,7 @@ pub fn run(
 ) -> Ran
     ensures { λ r. ⌜ Run (narrow (now (sheet .entry))) (now (script .entry)) (now (answers .entry)) (now (under .entry)) (now (over .entry)) (now (answers .exit)) (now (under .exit)) (now (over .exit)) (r .number) (r .place) (r .under) (r .over) ⌝ }
 {
-    let mut net = [0u64; 468];
+    let mut net = [0u64; 473];
     run_form(sheet, false, script, answers, under, over, &mut net)
 }
 
@@ -216,6 +218,6 @@ pub fn run_wide(
 ) -> Ran
     ensures { λ r. ⌜ Run (wide (now (sheet .entry))) (now (script .entry)) (now (answers .entry)) (now (under .entry)) (now (over .entry)) (now (answers .exit)) (now (under .exit)) (now (over .exit)) (r .number) (r .place) (r .under) (r .over) ⌝ }
 {
-    let mut net = [0u64; 6068];
+    let mut net = [0u64; 6073];
     run_form(sheet, true, script, answers, under, over, &mut net)
 }

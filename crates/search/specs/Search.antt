@@ -5,7 +5,7 @@ use mathlib.Core.Bool.{Bool, true, false}
 use mathlib.Core.List.{List}
 use lib.ListN.{length}
 use Rattle.words.specs.Word.{bit}
-use Rattle.formula.specs.Formula.{truth}
+use Rattle.formula.specs.Formula.{Formula}
 use Rattle.records.specs.Both.{Tables}
 use Rattle.net.specs.Net.{Clear}
 use Rattle.net.specs.Layout.{netForm, framesOf, packed, formulaAt, val, Ground}
@@ -13,20 +13,24 @@ use Rattle.judge.specs.Judge.{Judged}
 pub use Rattle.imply.specs.Posed.{Found, Lost, Free, Covers, Posed}
 pub use Rattle.proxies.specs.Told.{Told}
 
--- node a is searched for the truth t over the variables of `loose`
+-- f is searched for the truth t over the variables of `loose`
+abbrev pub Settled : Formula → ℕ → ℕ → ℕ → Bool → ℕ → ℕ → Type 0
+Settled f t loose w true word r = Found f (val t) loose w word r
+Settled f t loose w false word r = Lost f (val t) loose w r
+
+-- node a is
 abbrev pub Solved : List ℕ → ℕ → ℕ → ℕ → ℕ → Bool → ℕ → ℕ → Type 0
-Solved net a t loose w true word r = Found (formulaAt net a) (val t) loose w word r
-Solved net a t loose w false word r = Lost (formulaAt net a) (val t) loose w r
+Solved net a t loose w found word r = Settled (formulaAt net a) t loose w found word r
 
 -- the scratch for wants has a place for every node, and the records are true of the net
 pub record Lent (net wants u : List ℕ) (cu : ℕ) (o : List ℕ) (co : ℕ) : Type 0 where
-  pub long : length net ≤ 66 + length wants
+  pub long : length net ≤ 67 + length wants
   pub tables : Tables (netForm net) (formulaAt net) (framesOf net) u cu o co
 
--- node i under a full candidate, or a quantifier at the place behind the frames
+-- node i under a full candidate, or a quantifier of a question behind the frames
 pub record Checked (net : List ℕ) (i m w : ℕ) (cells : List ℕ) : Type 0 where
   pub ground : Ground net
-  pub here : i ≤ framesOf net
+  pub here : i ≤ framesOf net + 2
   pub covers : Covers net i m
   pub clear : Clear (packed net) i m
   pub judged : Judged net m w cells

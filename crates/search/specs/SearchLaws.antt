@@ -17,7 +17,7 @@ use Rattle.formula.specs.ReasonWord.{word-never, word-input, word-both}
 use Rattle.form.specs.Form.{recordStart}
 use Rattle.form.specs.declared.Form.{Form}
 use Rattle.records.specs.Both.{Tables, TablesGrown}
-use Rattle.net.specs.Over.{over-free}
+use Rattle.formula.specs.Over.{over-free}
 use Rattle.net.specs.Net.{Clear}
 use Rattle.net.specs.Clear.{clear-less, clear-sub, clear-or}
 use Rattle.net.specs.Stands.{mask-decided, mask-undecided}
@@ -105,7 +105,7 @@ module _ {net : List ℕ} {i m w op left right mask : ℕ} {cells : List ℕ} (K
       (rw (f-flips (K .ground) I e, val-flip v (T .some) (T .forced .low)) (explains-neg (T .forced .explains)))
 
   -- a node that it names, all of whose variables it reads
-  checked-named : {k : ℕ} {cells′ : List ℕ} → k < i → ((x : ℕ) → free (formulaAt net k) x ≡ true → free (formulaAt net i) x ≡ true) → Judged net m w cells′ → (k < framesOf net) × Checked net k m w cells′
+  checked-named : {k : ℕ} {cells′ : List ℕ} → k < i → ((x : ℕ) → free (formulaAt net k) x ≡ true → free (formulaAt net i) x ≡ true) → Judged net m w cells′ → (k < framesOf net + 2) × Checked net k m w cells′
   checked-named l h j = (
     omega (arith, l, K .here),
     record {
@@ -117,18 +117,18 @@ module _ {net : List ℕ} {i m w op left right mask : ℕ} {cells : List ℕ} (K
     },
   )
 
-  pub checked-flip : {cells′ : List ℕ} → op ≡ 3 → Judged net m w cells′ → (left < framesOf net) × Checked net left m w cells′
+  pub checked-flip : {cells′ : List ℕ} → op ≡ 3 → Judged net m w cells′ → (left < framesOf net + 2) × Checked net left m w cells′
   unfolding free
   checked-flip e j = checked-named (flips-below (K .ground) I e) (λ x h. ap (λ (f : Formula). free f x) (f-flips (K .ground) I e) ∙ h) j
 
   module _ (l : 4 ≤ op) (h : op < 6) where
-    pub checked-left : {cells′ : List ℕ} → Judged net m w cells′ → (left < framesOf net) × Checked net left m w cells′
+    pub checked-left : {cells′ : List ℕ} → Judged net m w cells′ → (left < framesOf net + 2) × Checked net left m w cells′
     unfolding free
     checked-left j =
         checked-named (joins-left (K .ground) I l h)
         (λ x e. ap (λ (f : Formula). free f x) (f-joins (K .ground) I l h refl) ∙ or-left (free (formulaAt net left) x) (free (formulaAt net right) x) e) j
 
-    pub checked-right : {cells′ : List ℕ} → Judged net m w cells′ → (right < framesOf net) × Checked net right m w cells′
+    pub checked-right : {cells′ : List ℕ} → Judged net m w cells′ → (right < framesOf net + 2) × Checked net right m w cells′
     unfolding free
     checked-right j =
         checked-named (joins-right (K .ground) I l h)

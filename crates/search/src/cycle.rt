@@ -14,7 +14,7 @@ use proxies::recorded;
 use records::Counts;
 use words::w64;
 ghost use mathlib.Core.Path.{_≡_};
-ghost use Prim.Native.Nat.{ℕ, _<_, _≤_};
+ghost use Prim.Native.Nat.{_+_, _<_, _≤_};
 ghost use Rattle.words.specs.Mask as Mask;
 ghost use Rattle.records.specs.Both.{TablesGrown};
 ghost use Rattle.net.specs.Layout.{netForm, framesOf, formulaAt, Is, decides};
@@ -337,7 +337,7 @@ fn check(
     over: &mut [u32],
     kept: Counts,
 ) -> Valued
-    requires { ⌜ (i < framesOf (now net)) × Checked (now net) i (cube .mask) (cube .values) (now cells) ⌝ }
+    requires { ⌜ (i < framesOf (now net) + 2) × Checked (now net) i (cube .mask) (cube .values) (now cells) ⌝ }
     requires { ⌜ Lent (now net) (now wants) (now under) (kept .under) (now over) (kept .over) ⌝ }
     ensures { λ r. ⌜ Told (now (net .entry)) (cube .mask) (cube .values) i (r .value) (r .reason) × Judging (now (net .entry)) (cube .mask) (cube .values) (now (cells .entry)) head (now (cells .exit)) (r .head) ⌝ }
     ensures { λ r. ⌜ TablesGrown (netForm (now (net .entry))) (formulaAt (now (net .entry))) (framesOf (now (net .entry))) (now (under .entry)) (kept .under) (now (over .entry)) (kept .over) (now (under .exit)) (r .kept .under) (now (over .exit)) (r .kept .over) ⌝ }
@@ -407,7 +407,7 @@ fn evaluate(
     over: &mut [u32],
     kept: Counts,
 ) -> Valued
-    requires { ⌜ (i < framesOf (now net)) × Checked (now net) i (cube .mask) (cube .values) (now cells) ⌝ }
+    requires { ⌜ (i < framesOf (now net) + 2) × Checked (now net) i (cube .mask) (cube .values) (now cells) ⌝ }
     requires { ⌜ Lent (now net) (now wants) (now under) (kept .under) (now over) (kept .over) ⌝ }
     ensures { λ r. ⌜ Told (now (net .entry)) (cube .mask) (cube .values) i (r .value) (r .reason) × Judging (now (net .entry)) (cube .mask) (cube .values) (now (cells .entry)) head (now (cells .exit)) (r .head) ⌝ }
     ensures { λ r. ⌜ TablesGrown (netForm (now (net .entry))) (formulaAt (now (net .entry))) (framesOf (now (net .entry))) (now (under .entry)) (kept .under) (now (over .entry)) (kept .over) (now (under .exit)) (r .kept .under) (now (over .exit)) (r .kept .over) ⌝ }
@@ -453,7 +453,7 @@ fn gate(
     kept: Counts,
 ) -> Valued
     requires { ⌜ Is (now net) i (node .op) (node .left) (node .right) (node .mask) × (4 ≤ node .op) × (node .op < 6) ⌝ }
-    requires { ⌜ (i < framesOf (now net)) × Checked (now net) i (cube .mask) (cube .values) (now cells) ⌝ }
+    requires { ⌜ (i < framesOf (now net) + 2) × Checked (now net) i (cube .mask) (cube .values) (now cells) ⌝ }
     requires { ⌜ Lent (now net) (now wants) (now under) (kept .under) (now over) (kept .over) ⌝ }
     ensures { λ r. ⌜ Told (now (net .entry)) (cube .mask) (cube .values) i (r .value) (r .reason) × Judging (now (net .entry)) (cube .mask) (cube .values) (now (cells .entry)) head (now (cells .exit)) (r .head) ⌝ }
     ensures { λ r. ⌜ TablesGrown (netForm (now (net .entry))) (formulaAt (now (net .entry))) (framesOf (now (net .entry))) (now (under .entry)) (kept .under) (now (over .entry)) (kept .over) (now (under .exit)) (r .kept .under) (now (over .exit)) (r .kept .over) ⌝ }
@@ -487,7 +487,7 @@ fn gate(
     }
 }
 
-// The value of a quantifier. An agreeing record settles it; else its body is searched, and what that shows is kept.
+// The value of a quantifier. An agreeing record settles it; else its body is searched, and what that shows is kept. Behind the frames there are no records.
 fn quantified(
     net: &[u64],
     i: usize,
@@ -501,14 +501,13 @@ fn quantified(
     kept: Counts,
 ) -> Valued
     requires { ⌜ Is (now net) i (node .op) (node .left) (node .right) (node .mask) × (6 ≤ node .op) ⌝ }
-    requires { ⌜ (i < framesOf (now net)) × Checked (now net) i (cube .mask) (cube .values) (now cells) ⌝ }
+    requires { ⌜ (i < framesOf (now net) + 2) × Checked (now net) i (cube .mask) (cube .values) (now cells) ⌝ }
     requires { ⌜ Lent (now net) (now wants) (now under) (kept .under) (now over) (kept .over) ⌝ }
     ensures { λ r. ⌜ Told (now (net .entry)) (cube .mask) (cube .values) i (r .value) (r .reason) × Judging (now (net .entry)) (cube .mask) (cube .values) (now (cells .entry)) head (now (cells .exit)) (r .head) ⌝ }
     ensures { λ r. ⌜ TablesGrown (netForm (now (net .entry))) (formulaAt (now (net .entry))) (framesOf (now (net .entry))) (now (under .entry)) (kept .under) (now (over .entry)) (kept .over) (now (under .exit)) (r .kept .under) (now (over .exit)) (r .kept .over) ⌝ }
-    ensures { λ r. ⌜ Noted (netForm (now (net .entry))) i (r .value) (cube .values) (now (under .exit)) (r .kept .under) (now (over .exit)) (r .kept .over) ⌝ }
+    ensures { λ r. ⌜ (i < framesOf (now (net .entry)) → Noted (netForm (now (net .entry))) i (r .value) (cube .values) (now (under .exit)) (r .kept .under) (now (over .exit)) (r .kept .over)) ⌝ }
 {
-    let form = net::form(net);
-    let known = recorded(form, i, cube.values, &under[..], &over[..], kept);
+    let known = recorded(net, i, cube.values, &under[..], &over[..], kept);
     if known.value != 0 {
         return Valued {
             value: known.value,
@@ -520,7 +519,7 @@ fn quantified(
     let s = choose(net, i, node, cube, 0, cells, wants, under, over, kept);
     let shown = body_shows(node, s.found, s.reason);
     let between = s.kept;
-    let after = note(form, i, shown, cube.values, under, over, between);
+    let after = note(net, i, shown, cube.values, under, over, between);
     Valued {
         value: shown.value,
         reason: shown.reason,

@@ -206,21 +206,21 @@ words-valued {es} w = rw (w .mask-is, w .values-are) (values-mask es)
 
 -- ---- over a formula's meaning
 
-pub opens-below : (n : ℕ) (f : Formula) (x : ℕ) → meaning n f .opens x ≡ true → x < n
+pub opens-below : (n : ℕ) (f : Formula) (g x : ℕ) → meaning n f g .opens x ≡ true → x < n
 unfolding meaning
-opens-below n f x t = ltb-true x n (and-both (ltb x n) (free f x) t .0)
+opens-below n f g x t = ltb-true x n (and-both (ltb x n) (free f x) t .0)
 
 -- what the code tests: a variable is open exactly if the word of the free variables has it
-pub bit-opens : (n : ℕ) (f : Formula) (x : ℕ) → bit (freeMask n f) x ≡ meaning n f .opens x
+pub bit-opens : (n : ℕ) (f : Formula) (g x : ℕ) → bit (freeMask n f) x ≡ meaning n f g .opens x
 unfolding meaning freeMask
-bit-opens n f x = bit-maskOf n (free f) x
+bit-opens n f g x = bit-maskOf n (free f) x
 
-module _ (n : ℕ) (f : Formula) {es : List Entry} (d : Entered (meaning n f) es) where
+module _ (n : ℕ) (f : Formula) (g : ℕ) {es : List Entry} (d : Entered (meaning n f g) es) where
   -- the mask lies in the free variables
   pub mask-free : Sub (enteredMask es) (freeMask n f)
   mask-free = sub-bits (enteredMask es) (freeMask n f) (λ k t.
       let r = entered-find es k (sym (bit-enteredMask es k) ∙ t) in
-      bit-opens n f k ∙ (rw (r .2) at (d .opened (r .0) (r .1))))
+      bit-opens n f g k ∙ (rw (r .2) at (d .opened (r .0) (r .1))))
 
   pub words-opened : {mask values : ℕ} → Words es mask values → Sub mask (freeMask n f)
   words-opened w = rw (w .mask-is) mask-free
@@ -234,4 +234,4 @@ module _ (n : ℕ) (f : Formula) {es : List Entry} (d : Entered (meaning n f) es
 
   -- at most as many entries stand as there are variables: a place fits a byte where n is 32 or 64
   pub entries-at-most : length es ≤ n
-  entries-at-most = entries-few n (opens-below n f) d
+  entries-at-most = entries-few n (opens-below n f g) d

@@ -10,8 +10,7 @@ use borrow.Author.Tests.{lt-leb, le-ltb, ne-eqb}
 use lib.Dec.{eqb}
 use Rattle.words.specs.Logic.{by-bool}
 use Rattle.formula.specs.Formula.{Formula}
-use Rattle.formula.specs.Ask.{ask}
-use Rattle.formula.specs.Why.{why}
+use Rattle.formula.specs.Gauges.{verdict, reason}
 use Rattle.sheet.specs.Rules.{spareSet}
 use Rattle.session.specs.declared.Entry.{Entry}
 use Rattle.session.specs.Model.{Meaning, meaning, noEntry, entered, enteredMask, enteredValues, counted, told, judged, reply, ENTER, TAKE-BACK, READ, ASK, WHY, used, unknown, lastDesk, lineRefusal, obeyed, line}
@@ -57,12 +56,12 @@ module _ (m : Meaning) (es : List Entry) where
 -- ---- ASK and WHY
 
 -- ASK and WHY tell what the definitions say of the entries, and change nothing
-module _ (n : ℕ) (f : Formula) (es : List Entry) where
-  pub ask-line : line (meaning n f) es ASK 0 0 0 ≡ reply (judged (ask n f (enteredMask es) (enteredValues es))) es
+module _ (n : ℕ) (f : Formula) (g : ℕ) (es : List Entry) where
+  pub ask-line : line (meaning n f g) es ASK 0 0 0 ≡ reply (judged (verdict n f g (enteredMask es) (enteredValues es))) es
   unfolding meaning line lineRefusal unknown used spareSet obeyed
   ask-line = refl
 
-  pub why-line : line (meaning n f) es WHY 0 0 0 ≡ reply (judged (why n f (enteredMask es) (enteredValues es))) es
+  pub why-line : line (meaning n f g) es WHY 0 0 0 ≡ reply (judged (reason n f g (enteredMask es) (enteredValues es))) es
   unfolding meaning line lineRefusal unknown used spareSet obeyed
   why-line = refl
 

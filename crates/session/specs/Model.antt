@@ -10,8 +10,8 @@ use Rattle.words.specs.Bytes.{bytesOf}
 use Rattle.form.specs.Form.{wordBytes}
 use Rattle.form.specs.declared.Form.{Form}
 use Rattle.formula.specs.Formula.{Formula, free}
-use Rattle.formula.specs.Ask.{Verdict, ask}
-use Rattle.formula.specs.Why.{why}
+use Rattle.formula.specs.Ask.{Verdict}
+use Rattle.formula.specs.Gauges.{verdict, reason}
 use Rattle.sheet.specs.Refusal as Number
 use Rattle.sheet.specs.Rules.{spareSet}
 use Rattle.session.specs.declared.Entry.{Entry}
@@ -22,9 +22,9 @@ pub record Meaning : Type 0 where
   pub asks : ℕ → ℕ → Verdict
   pub whys : ℕ → ℕ → Verdict
 
--- the meaning of f, over the n variables from 0 on
-unfoldable pub meaning : ℕ → Formula → Meaning
-meaning n f = record { opens = λ x. ltb x n && free f x; asks = ask n f; whys = why n f }
+-- the meaning of f with the gauges of g, over the n variables from 0 on
+unfoldable pub meaning : ℕ → Formula → ℕ → Meaning
+meaning n f g = record { opens = λ x. ltb x n && free f x; asks = verdict n f g; whys = reason n f g }
 
 -- ---- entries
 

@@ -9,6 +9,7 @@ use lib.Seq.{length-take-le, getD-take, take-take}
 use Rattle.words.specs.Word.{bit}
 use Rattle.form.specs.Form.{few-variables}
 use Rattle.sheet.specs.Fields.{Sheet, variables}
+use Rattle.sheet.specs.Rules.{gauges}
 use Rattle.records.specs.Both.{tables-none}
 use Rattle.net.specs.Layout.{freeOf}
 use Rattle.net.specs.Sheet.{NetOf}
@@ -27,9 +28,9 @@ standingOf x = take (x .len) (x .entries)
 abbrev pub WordsKept : Session → Type 0
 WordsKept x = Words (standingOf x) (x .entered .mask) (x .entered .values)
 
--- what the reference model takes from a sheet: the meaning of its last frame
+-- what the reference model takes from a sheet: the meaning of its last frame, with the sheet's gauges
 abbrev pub sheetMeaning : Sheet → Meaning
-sheetMeaning s = meaning (variables s) (root s)
+sheetMeaning s = meaning (variables s) (root s) (gauges s)
 
 -- the array has its length, and as many entries stand as there are variables at most, each of one that no earlier entry has; their words are kept
 pub record Shaped (x : Session) : Type 0 where
@@ -67,14 +68,14 @@ module _ {s : Sheet} {free : ℕ} {x : Session} {u o : List ℕ} (d : Sound s fr
   sound-shaped = record {
     cells = d .cells;
     within = d .within;
-    low = λ i h. omega (arith, few-variables (s .form), opens-below (variables s) (root s) _ (rw (getD-take (x .len) (x .entries) i noEntry h) at (d .entered .opened i (rw sound-length h))));
+    low = λ i h. omega (arith, few-variables (s .form), opens-below (variables s) (root s) (gauges s) _ (rw (getD-take (x .len) (x .entries) i noEntry h) at (d .entered .opened i (rw sound-length h))));
     fresh = λ i h. rw (take-take i (x .len) (x .entries) (omega arith), getD-take (x .len) (x .entries) i noEntry h) at (not-earlier i (d .entered) (rw sound-length h));
     words = d .words;
   }
 
   -- what the model calls open is what the word of the free variables has
   pub sound-opens : {f : ℕ} → f ≡ free → (v : ℕ) → sheetMeaning s .opens v ≡ bit f v
-  sound-opens e v = sym (rw (e, d .sheet .opens) (bit-opens (variables s) (root s) v))
+  sound-opens e v = sym (rw (e, d .sheet .opens) (bit-opens (variables s) (root s) (gauges s) v))
 
 -- ---- on the sheet's net
 
@@ -88,7 +89,7 @@ pub net-ready : {s : Sheet} {net : List ℕ} {x : Session} {u o : List ℕ} → 
 net-ready {s} d = record {
   checked = d .sound .sheet;
   net-of = d .net-of;
-  entered = rw (d .sound .sheet .opens) (words-opened (variables s) (root s) (d .sound .entered) (d .sound .words));
+  entered = rw (d .sound .sheet .opens) (words-opened (variables s) (root s) (gauges s) (d .sound .entered) (d .sound .words));
   valued = words-valued (d .sound .words);
   tables = d .sound .tables;
 }

@@ -5,10 +5,9 @@ use mathlib.Core.Bool.{Bool, false, _||_}
 use mathlib.Core.List.{List}
 use lib.ListN.{length}
 use lib.Dec.{eqb}
-use Rattle.formula.specs.Ask.{Verdict, ask}
-use Rattle.formula.specs.Why.{why}
-use Rattle.sheet.specs.Fields.{Sheet, variables}
-use Rattle.solver.specs.Contract.{root, TablesGrown, Promised}
+use Rattle.formula.specs.Ask.{Verdict}
+use Rattle.sheet.specs.Fields.{Sheet}
+use Rattle.solver.specs.Contract.{verdictOf, reasonOf, TablesGrown, Promised}
 use Rattle.session.specs.declared.Entry.{Entry}
 use Rattle.session.specs.declared.Session.{Session}
 use Rattle.session.specs.Model.{Answer, Reply, judged, enteredMask, enteredValues, ASK, WHY, line}
@@ -16,10 +15,10 @@ use Rattle.session.specs.Sound.{standingOf, WordsKept, sheetMeaning, Sou
 
 -- what ASK and WHY say of a sheet where the entries es stand
 abbrev pub askOf : Sheet → List Entry → Verdict
-askOf s es = ask (variables s) (root s) (enteredMask es) (enteredValues es)
+askOf s es = verdictOf s (enteredMask es) (enteredValues es)
 
 abbrev pub whyOf : Sheet → List Entry → Verdict
-whyOf s es = why (variables s) (root s) (enteredMask es) (enteredValues es)
+whyOf s es = reasonOf s (enteredMask es) (enteredValues es)
 
 -- document 01's promise after an ASK
 abbrev pub PromisedFor : Sheet → List Entry → List ℕ → ℕ → List ℕ → ℕ → Type 0

@@ -15,7 +15,7 @@ use Rattle.cube.specs.Cube.{Fixed, Freed, fixed-mask, fixed-values, freed-one}
 use Rattle.formula.specs.Ask.{Verdict}
 use Rattle.form.specs.Form.{few-variables}
 use Rattle.sheet.specs.Fields.{Sheet, variables}
-use Rattle.sheet.specs.Rules.{spareSet}
+use Rattle.sheet.specs.Rules.{spareSet, gauges}
 use Rattle.records.specs.Both.{tables-same}
 use Rattle.solver.specs.Contract.{root, TablesGrown, Same}
 use Rattle.session.specs.declared.Entry.{Entry}
@@ -144,10 +144,10 @@ module _ {s : Sheet} {free : ℕ} {x : Session} {u o : List ℕ} (d : Sound s fr
     pub enter-room : k ≡ ENTER → x .len < 64
     enter-room e =
         let D = entered-more (record { variable = a; value = b; desk = c }) (d .entered) (passes .fresh e) (passes .opened e) (passes .valued e) (passes .desked e) in
-        omega (arith, simp length-append at (entries-at-most (variables s) (root s) D), sound-length d, few-variables (s .form))
+        omega (arith, simp length-append at (entries-at-most (variables s) (root s) (gauges s) D), sound-length d, few-variables (s .form))
 
     pub enter-fresh : k ≡ ENTER → Fresh x a
-    enter-fresh e = record { low = omega (arith, few-variables (s .form), opens-below (variables s) (root s) a (passes .opened e)); absent = passes .fresh e }
+    enter-fresh e = record { low = omega (arith, few-variables (s .form), opens-below (variables s) (root s) (gauges s) a (passes .opened e)); absent = passes .fresh e }
 
     pub take-back-some : k ≡ TAKE-BACK → 0 < x .len
     take-back-some e = omega (arith, passes .standing e, sound-length d)

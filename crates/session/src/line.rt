@@ -130,10 +130,10 @@ fn ask(session: Session, net: &mut [u64], under: &mut [u32], over: &mut [u32]) -
         over: session.over,
     };
     let entered = session.entered;
-    let found = solver::ask(net, entered.mask, entered.values, under, over, kept);
-    let after = found.kept;
+    let asked = solver::ask(net, entered.mask, entered.values, under, over, kept);
+    let after = asked.kept;
     let next = recount(session, after.under, after.over);
-    let answer = tell_verdict(found.holds, found.word);
+    let answer = tell_verdict(asked.holds, asked.word);
     Stepped {
         session: next,
         answer,

@@ -1,9 +1,9 @@
--- A sheet is accepted exactly if it keeps document 01's rules, and refused by a number at a place exactly if that cause holds and none
+-- A sheet is accepted exactly if it keeps document 01's and 02's rules, and refused by a number at a place exactly if that cause holds and none
 -- earlier in the order does; what the layers above use of a sheet that is accepted. Assumes nothing.
 use Prim.Native.Nat.{ℕ, zero, suc, _+_, _≤_, _<_}
 use native.Mathlib.Omega.{arith}
 use mathlib.Core.Path.{_≡_, refl, sym, _∙_, ap, subst}
-use mathlib.Core.Bool.{true, false, not, _&&_, _||_}
+use mathlib.Core.Bool.{Bool, true, false, not, _&&_, _||_}
 use mathlib.Core.Logic.{inl, inr, ⊎-elim, _↔_}
 use mathlib.Core.List.{List, [], _∷_, List·Memᴰ, List·Memᴰ·head, List·Memᴰ·tail, List·Memᴰ·cases-cons, List·Memᴰ·not-nil}
 use lib.ListN.{length}
@@ -19,11 +19,11 @@ use Rattle.form.specs.Form as Sizes
 use Rattle.form.specs.declared.Form.{Form}
 use Rattle.sheet.specs.Fields.{Sheet, frames, mostFrames, variables, kind}
 use Rattle.sheet.specs.Frames.{formula, formulaOf, build, Fit, Ordered, formula-is, kind-past}
-use Rattle.sheet.specs.Rules.{last, spareSet, names, someLate, badVariables, binds, boundBefore, lengthCauses, sizeCauses, causesBelow, rootCauses, frameCauses, sheetCauses, sheetRefusal}
-use Rattle.sheet.specs.RuleLaws.{bound-by, by-bound, range-fits, fits-range, binds-low, meet-none, none-meet, CleanAt, below-clean, clean-below, below-ordered, sheet-numbered}
-use Rattle.sheet.specs.Keeps.{Quantifies, Keeps}
+use Rattle.sheet.specs.Rules.{last, spareSet, names, someLate, badVariables, binds, namesInput, namesGauge, someBefore, boundBefore, meet, namedBoth, bindsGauge, lengthCauses, sizeCauses, causesBelow, rootCauses, frameCauses, sheetCauses, sheetRefusal}
+use Rattle.sheet.specs.RuleLaws.{before-by, by-before, input-is, gauge-is, is-input, is-gauge, range-fits, fits-range, binds-low, input-low, gauge-low, meet-none, none-meet, neither-named, neither-bound, CleanAt, below-clean, clean-below, below-ordered, sheet-numbered}
+use Rattle.sheet.specs.Keeps.{Quantifies, Reads, Keeps}
 use Rattle.sheet.specs.declared.Kind.{Kind}
-use Rattle.sheet.specs.declared.Kind.the-variants.{Never, Input, Not, And, Or, Exists, Forall}
+use Rattle.sheet.specs.declared.Kind.the-variants.{Never, Input, Not, And, Or, Exists, Forall, Gauge}
 
 -- ---- each rule and its test
 
@@ -81,20 +81,22 @@ unfolding someLate
 none-late k [] h = refl
 none-late k (x ∷ l) h = rw (lt-leb k x (h x (List·Memᴰ·head refl)), none-late k l (λ a m. h a (List·Memᴰ·tail m)))
 
-variables-good : (F : Form) (d : Kind) → ((x : ℕ) → d ≡ Input x → x < Sizes.variables F)
+variables-good : (F : Form) (d : Kind) → ((x : ℕ) → Reads d x → x < Sizes.variables F)
     → ((a b c : ℕ) → Quantifies d a b c → (1 ≤ c) × (c ≤ Sizes.variables F) × (b + c ≤ Sizes.variables F)) → badVariables F d ≡ false
 unfolding badVariables
 variables-good F Never f g = refl
-variables-good F (Input x) f g = lt-leb (Sizes.variables F) x (f x refl)
+variables-good F (Input x) f g = lt-leb (Sizes.variables F) x (f x (inl refl))
 variables-good F (Not a) f g = refl
 variables-good F (And a b) f g = refl
 variables-good F (Or a b) f g = refl
 variables-good F (Exists a b c) f g = let r = g a b c (inl refl) in fits-range F b c (r .0) (r .1) (r .2)
 variables-good F (Forall a b c) f g = let r = g a b c (inr refl) in fits-range F b c (r .0) (r .1) (r .2)
+variables-good F (Gauge x) f g = lt-leb (Sizes.variables F) x (f x (inr refl))
 
-input-good : (F : Form) (d : Kind) (x : ℕ) → badVariables F d ≡ false → d ≡ Input x → x < Sizes.variables F
+input-good : (F : Form) (d : Kind) (x : ℕ) → badVariables F d ≡ false → Reads d x → x < Sizes.variables F
 unfolding badVariables
-input-good F d x e q = omega (tests, ap (badVariables F) (sym q) ∙ e)
+input-good F d x e (inl q) = omega (tests, ap (badVariables F) (sym q) ∙ e)
+input-good F d x e (inr q) = omega (tests, ap (badVariables F) (sym q) ∙ e)
 
 range-good : (F : Form) (d : Kind) (a b c : ℕ) → badVariables F d ≡ false → Quantifies d a b c → (1 ≤ c) × (c ≤ Sizes.variables F) × (b + c ≤ Sizes.variables F)
 unfolding badVariables
@@ -104,9 +106,39 @@ range-good F d a b c e (inr q) = range-fits F b c (ap (badVariables F) (sym q) �
 -- ---- no cause holds exactly if the rules are kept
 
 module _ (s : Sheet) where
-  twice : (j k v : ℕ) → j < k → k < frames s → CleanAt s k → binds (kind s j) v ≡ true → binds (kind s k) v ≡ true → ⊥
-  twice j k v h l g p q =
-      clash (boundBefore (kind s) k v) (bound-by (kind s) k j v h p) (none-meet (s .form) _ _ (g .once) v (binds-low (s .form) _ v (g .variable) q) q)
+  -- a frame that does q to v, where no frame before it that does p has a variable in common with it
+  clashes : (p q : Kind → ℕ → Bool) (j k v : ℕ) → j < k → meet (s .form) (q (kind s k)) (someBefore p (kind s) k) ≡ false → v < variables s → p (kind s j) v ≡ true → q (kind s k) v ≡ true → ⊥
+  clashes p q j k v h e l a b = clash (someBefore p (kind s) k v) (before-by p (kind s) k j v h a) (none-meet (s .form) _ _ e v l b)
+
+  -- and back
+  apart : (p q : Kind → ℕ → Bool) (k : ℕ) → ((j v : ℕ) → j < k → p (kind s j) v ≡ true → q (kind s k) v ≡ true → ⊥) → meet (s .form) (q (kind s k)) (someBefore p (kind s) k) ≡ false
+  apart p q k h = meet-none (s .form) _ _ (λ v l b a. let r = by-before p (kind s) k v a in h (r .0) v (r .1) (r .2) b)
+
+  -- frame k is clean: what it does not do behind frame j
+  module _ (j k v : ℕ) (h : j < k) (g : CleanAt s k) where
+    twice : binds (kind s j) v ≡ true → binds (kind s k) v ≡ true → ⊥
+    twice a b = clashes binds binds j k v h (g .once) (binds-low (s .form) _ v (g .variable) b) a b
+
+    input-behind : namesGauge (kind s j) v ≡ true → namesInput (kind s k) v ≡ true → ⊥
+    input-behind a b = clashes namesGauge namesInput j k v h (neither-named (s .form) _ _ (g .unmixed) .0) (input-low (s .form) _ v (g .variable) b) a b
+
+    gauge-behind-input : namesInput (kind s j) v ≡ true → namesGauge (kind s k) v ≡ true → ⊥
+    gauge-behind-input a b = clashes namesInput namesGauge j k v h (neither-named (s .form) _ _ (g .unmixed) .1) (gauge-low (s .form) _ v (g .variable) b) a b
+
+    binder-behind : namesGauge (kind s j) v ≡ true → binds (kind s k) v ≡ true → ⊥
+    binder-behind a b = clashes namesGauge binds j k v h (neither-bound (s .form) _ _ (g .unbound) .0) (binds-low (s .form) _ v (g .variable) b) a b
+
+    gauge-behind-binder : binds (kind s j) v ≡ true → namesGauge (kind s k) v ≡ true → ⊥
+    gauge-behind-binder a b = clashes binds namesGauge j k v h (neither-bound (s .form) _ _ (g .unbound) .1) (gauge-low (s .form) _ v (g .variable) b) a b
+
+  -- one frame does not do both
+  input-no-gauge : (d : Kind) (v : ℕ) → namesInput d v ≡ true → namesGauge d v ≡ true → ⊥
+  unfolding namesInput
+  input-no-gauge d v a b = clash false (ap (λ (d : Kind). namesInput d v) (sym (gauge-is d v b)) ∙ a) refl
+
+  gauge-no-binder : (d : Kind) (v : ℕ) → namesGauge d v ≡ true → binds d v ≡ true → ⊥
+  unfolding binds
+  gauge-no-binder d v a b = clash false (ap (λ (d : Kind). binds d v) (sym (gauge-is d v a)) ∙ b) refl
 
   keeps : Sized s → ((k : ℕ) → k < frames s → CleanAt s k) → someHolds (rootCauses s) ≡ false → Keeps s
   unfolding someHolds
@@ -122,31 +154,53 @@ module _ (s : Sheet) where
         earlier = λ k a h m. late-none k (names (kind s k)) (g k h .earlier) a m;
         variable = λ k x h q. input-good (s .form) (kind s k) x (g k h .variable) q;
         range = λ k a b c h q. range-good (s .form) (kind s k) a b c (g k h .variable) q;
+        unmixed = λ j k x i h p q. mixed j k x (omega arith) (omega arith) (is-input (kind s j) x p) (is-gauge (kind s k) x q);
+        unbound = λ j k x i h p. by-bool (binds (kind s k) x) (λ q. absurd (bound j k x (omega arith) (omega arith) (is-gauge (kind s j) x p) q)) (λ q. q);
         once = λ j k v i h p q. one j k v i h p q;
-        closed = λ k v h p. none-meet (s .form) _ _ (or-false _ false r .0) v (binds-low (s .form) (kind s k) v (g k h .variable) p) (bound-by (kind s) (frames s) k v h p);
+        closed = λ k v h p. none-meet (s .form) _ _ (or-false _ false r .0) v (binds-low (s .form) (kind s k) v (g k h .variable) p) (before-by binds (kind s) (frames s) k v h p);
       }
     where
+      mixed : (j k v : ℕ) → j < frames s → k < frames s → namesInput (kind s j) v ≡ true → namesGauge (kind s k) v ≡ true → ⊥
+      mixed j k v i h p q = by-bool (ltb j k)
+          (λ t. gauge-behind-input j k v (omega tests) (g k h) p q)
+          (λ t. by-bool (ltb k j)
+          (λ u. input-behind k j v (omega tests) (g j i) q p)
+          (λ u. let e : j ≡ k = omega tests in input-no-gauge (kind s j) v p (ap (λ (i : ℕ). namesGauge (kind s i) v) e ∙ q)))
+
+      bound : (j k v : ℕ) → j < frames s → k < frames s → namesGauge (kind s j) v ≡ true → binds (kind s k) v ≡ true → ⊥
+      bound j k v i h p q = by-bool (ltb j k)
+          (λ t. binder-behind j k v (omega tests) (g k h) p q)
+          (λ t. by-bool (ltb k j)
+          (λ u. gauge-behind-binder k j v (omega tests) (g j i) q p)
+          (λ u. let e : j ≡ k = omega tests in gauge-no-binder (kind s j) v p (ap (λ (i : ℕ). binds (kind s i) v) e ∙ q)))
+
       one : (j k v : ℕ) → j < frames s → k < frames s → binds (kind s j) v ≡ true → binds (kind s k) v ≡ true → j ≡ k
       one j k v i h p q = by-bool (ltb j k)
-          (λ t. absurd (twice j k v (omega tests) h (g k h) p q))
-          (λ t. by-bool (ltb k j) (λ u. absurd (twice k j v (omega tests) i (g j i) q p)) (λ u. omega tests))
+          (λ t. absurd (twice j k v (omega tests) (g k h) p q))
+          (λ t. by-bool (ltb k j) (λ u. absurd (twice k j v (omega tests) (g j i) q p)) (λ u. omega tests))
 
   clean : Keeps s → (k : ℕ) → k < frames s → CleanAt s k
+  unfolding namedBoth bindsGauge
   clean K k h =
       record {
-        known = le-ltb 6 _ (K .known k h);
+        known = le-ltb 7 _ (K .known k h);
         spare = zero-spare _ _ _ _ (K .spare-a k h) (K .spare-b k h) (K .spare-c k h);
         earlier = none-late k (names (kind s k)) (λ a m. K .earlier k a h m);
         variable = variables-good (s .form) (kind s k) (λ x q. K .variable k x h q) (λ a b c q. K .range k a b c h q);
-        once = meet-none (s .form) _ _ (λ v l p q. first-to-bind v p (by-bound (kind s) k v q));
+        unmixed = rw (
+          apart namesGauge namesInput k (λ j v l p q. K .unmixed k j v (omega arith) (omega arith) (input-is _ v q) (gauge-is _ v p)),
+          apart namesInput namesGauge k (λ j v l p q. K .unmixed j k v (omega arith) (omega arith) (input-is _ v p) (gauge-is _ v q)),
+        );
+        unbound = rw (
+          apart namesGauge binds k (λ j v l p q. clash _ q (K .unbound j k v (omega arith) (omega arith) (gauge-is _ v p))),
+          apart binds namesGauge k (λ j v l p q. clash _ p (K .unbound k j v (omega arith) (omega arith) (gauge-is _ v q))),
+        );
+        once = apart binds binds k (λ j v l p q. omega (arith, K .once j k v (omega arith) h p q));
       }
-    where
-      first-to-bind : (v : ℕ) → binds (kind s k) v ≡ true → ((j : ℕ) × (j < k) × (binds (kind s j) v ≡ true)) → ⊥
-      first-to-bind v p r = omega (arith, r .1, K .once (r .0) k v (omega (arith, r .1)) h (r .2) p)
 
   root : Keeps s → someHolds (rootCauses s) ≡ false
   unfolding someHolds
-  root K = rw (meet-none (s .form) (boundBefore (kind s) (frames s)) (free (formula s (last s))) (λ v l p q. still-free v q (by-bound (kind s) (frames s) v p)))
+  root K = rw (meet-none (s .form) (boundBefore (kind s) (frames s)) (free (formula s (last s))) (λ v l p q. still-free v q (by-before binds (kind s) (frames s) v p)))
     where
       still-free : (v : ℕ) → free (formula s (last s)) v ≡ true → ((j : ℕ) × (j < frames s) × (binds (kind s j) v ≡ true)) → ⊥
       still-free v q r = clash (free (formula s (last s)) v) q (K .closed (r .0) v (r .1) (r .2))
@@ -209,6 +263,7 @@ build-bounded n k g (And a b) w h = bounded-gate false (h a (w .0)) (h b (w .1))
 build-bounded n k g (Or a b) w h = bounded-gate true (h a (w .0)) (h b (w .1))
 build-bounded n k g (Exists a b c) w h = bounded-quant true b c (h a (w .0))
 build-bounded n k g (Forall a b c) w h = bounded-quant false b c (h a (w .0))
+build-bounded n k g (Gauge x) w h = bounded-input n x w
 
 bounded-to : (n : ℕ) (κ : ℕ → Kind) → Ordered n κ → (m k : ℕ) → k < m → Bounded n (formulaOf κ k)
 bounded-to n κ o zero k h = absurd (omega arith)

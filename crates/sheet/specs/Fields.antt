@@ -12,7 +12,7 @@ use Rattle.form.specs.declared.Form.{Form}
 use Rattle.form.specs.declared.Form.the-variants.{Narrow, Wide}
 use Rattle.sheet.specs.declared.Fields.{Fields}
 use Rattle.sheet.specs.declared.Kind.{Kind}
-use Rattle.sheet.specs.declared.Kind.the-variants.{Never, Input, Not, And, Or, Exists, Forall}
+use Rattle.sheet.specs.declared.Kind.the-variants.{Never, Input, Not, And, Or, Exists, Forall, Gauge}
 
 pub record Sheet : Type 0 where
   pub form : Form
@@ -56,7 +56,7 @@ noFields = record { k = 0; a = 0; b = 0; c = 0 }
 unfoldable pub fieldsAt : Sheet → ℕ → Fields
 fieldsAt s k = cond (ltb k (frames s)) (laid (s .form) (s .bytes) k) noFields
 
--- the kind that a frame's fields say; a code above 6, which no accepted sheet has, gives Never
+-- the kind that a frame's fields say; a code above 7, which no accepted sheet has, gives Never
 unfoldable pub kindOf : Fields → Kind
 kindOf f =
     cond (eqb (f .k) 1) (Input (f .a))
@@ -64,7 +64,8 @@ kindOf f =
     (cond (eqb (f .k) 3) (And (f .a) (f .b))
     (cond (eqb (f .k) 4) (Or (f .a) (f .b))
     (cond (eqb (f .k) 5) (Exists (f .a) (f .b) (f .c))
-    (cond (eqb (f .k) 6) (Forall (f .a) (f .b) (f .c)) Never)))))
+    (cond (eqb (f .k) 6) (Forall (f .a) (f .b) (f .c))
+    (cond (eqb (f .k) 7) (Gauge (f .a)) Never))))))
 
 -- the kind of frame k; past the end, Never
 abbrev pub kind : Sheet → ℕ → Kind

@@ -5,9 +5,9 @@ use mathlib.Core.Path.{_≡_, refl, ap, ap₂}
 use Rattle.formula.specs.Formula.{Formula, never, input, neg, and, or, exists, forall}
 use Rattle.sheet.specs.Fields.{Sheet, frames, kindOf, kind, fields-past}
 use Rattle.sheet.specs.declared.Kind.{Kind}
-use Rattle.sheet.specs.declared.Kind.the-variants.{Never, Input, Not, And, Or, Exists, Forall}
+use Rattle.sheet.specs.declared.Kind.the-variants.{Never, Input, Not, And, Or, Exists, Forall, Gauge}
 
--- the formula of a kind, from those of the frames that it names
+-- the formula of a kind, from those of the frames that it names; a gauge is an input like any other, and which variables are gauges is said of the sheet
 unfoldable pub build : (ℕ → Formula) → Kind → Formula
 build g Never = never
 build g (Input x) = input x
@@ -16,6 +16,7 @@ build g (And a b) = and (g a) (g b)
 build g (Or a b) = or (g a) (g b)
 build g (Exists a b c) = exists b c (g a)
 build g (Forall a b c) = forall b c (g a)
+build g (Gauge x) = input x
 
 -- the same to a depth of n frames
 unfoldable pub tree : ℕ → (ℕ → Kind) → ℕ → Formula
@@ -38,6 +39,7 @@ Fit n k (And a b) = (a < k) × (b < k)
 Fit n k (Or a b) = (a < k) × (b < k)
 Fit n k (Exists a b c) = (a < k) × (b + c ≤ n)
 Fit n k (Forall a b c) = (a < k) × (b + c ≤ n)
+Fit n k (Gauge x) = x < n
 
 -- every frame names only earlier frames, and only variables below n
 pub record Ordered (n : ℕ) (κ : ℕ → Kind) : Type 0 where
@@ -51,6 +53,7 @@ fit-later n k m (And a b) h w = (omega (arith, w .0), omega (arith, w .1))
 fit-later n k m (Or a b) h w = (omega (arith, w .0), omega (arith, w .1))
 fit-later n k m (Exists a b c) h w = (omega (arith, w .0), w .1)
 fit-later n k m (Forall a b c) h w = (omega (arith, w .0), w .1)
+fit-later n k m (Gauge x) h w = w
 
 pub fit-more : (n m k l : ℕ) (d : Kind) → n ≤ m → k ≤ l → Fit n k d → Fit m l d
 fit-more n m k l Never g h w = tt
@@ -60,6 +63,7 @@ fit-more n m k l (And a b) g h w = (omega (arith, w .0), omega (arith, w .1))
 fit-more n m k l (Or a b) g h w = (omega (arith, w .0), omega (arith, w .1))
 fit-more n m k l (Exists a b c) g h w = (omega (arith, w .0), omega (arith, w .1))
 fit-more n m k l (Forall a b c) g h w = (omega (arith, w .0), omega (arith, w .1))
+fit-more n m k l (Gauge x) g h w = omega arith
 
 build-same : (n : ℕ) (g h : ℕ → Formula) (k : ℕ) (d : Kind) → Fit n k d → ((a : ℕ) → a < k → g a ≡ h a) → build g d ≡ build h d
 unfolding build
@@ -70,6 +74,7 @@ build-same n g h k (And a b) w e = ap₂ and (e a (w .0)) (e b (w .1))
 build-same n g h k (Or a b) w e = ap₂ or (e a (w .0)) (e b (w .1))
 build-same n g h k (Exists a b c) w e = ap (exists b c) (e a (w .0))
 build-same n g h k (Forall a b c) w e = ap (forall b c) (e a (w .0))
+build-same n g h k (Gauge x) w e = refl
 
 -- the frames below m name only earlier frames, and only variables below n
 abbrev pub OrderedBelow : ℕ → ℕ → (ℕ → Kind) → Type 0

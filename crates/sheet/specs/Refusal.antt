@@ -72,6 +72,14 @@ questionBroken = 18
 abbrev pub questionTooLarge : ℕ
 questionTooLarge = 19
 
+-- a variable is named by an INPUT and as a gauge
+abbrev pub inputAndGauge : ℕ
+inputAndGauge = 22
+
+-- a quantifier binds a gauge
+abbrev pub gaugeBound : ℕ
+gaugeBound = 23
+
 -- ENTER: the desk is above 7
 abbrev pub enterDesk : ℕ
 enterDesk = 24

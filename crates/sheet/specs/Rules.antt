@@ -1,20 +1,21 @@
--- Document 01's causes to refuse a sheet, each as a test of its bytes or of a frame's fields, and their order. Assumes nothing.
+-- Document 01's causes to refuse a sheet, and document 02's for gauges, each as a test of its bytes or of a frame's fields, and their order. Assumes nothing.
 use Prim.Native.Nat.{ℕ, zero, suc, _+_, _-_}
 use mathlib.Core.Bool.{Bool, false, not, _&&_, _||_}
 use mathlib.Core.List.{List, [], _∷_, _++_}
 use lib.ListN.{length}
 use lib.Dec.{eqb, leb, ltb}
+use Rattle.words.specs.Mask.{maskOf}
 use Rattle.formula.specs.Assignment.{within}
 use Rattle.formula.specs.Formula.{free}
 use Rattle.sheet.specs.Cause.{Cause, Refusal, first}
 use Rattle.sheet.specs.Refusal as Number
 use Rattle.form.specs.Form as Sizes
-use Rattle.sheet.specs.Fields.{Sheet, frames, fieldsAt, kindOf, kind}
+use Rattle.sheet.specs.Fields.{Sheet, frames, variables, fieldsAt, kindOf, kind}
 use Rattle.sheet.specs.Frames.{formula}
 use Rattle.form.specs.declared.Form.{Form}
 use Rattle.sheet.specs.declared.Fields.{Fields}
 use Rattle.sheet.specs.declared.Kind.{Kind}
-use Rattle.sheet.specs.declared.Kind.the-variants.{Never, Input, Not, And, Or, Exists, Forall}
+use Rattle.sheet.specs.declared.Kind.the-variants.{Never, Input, Not, And, Or, Exists, Forall, Gauge}
 
 -- the sheet's formula is that of its last frame
 abbrev pub last : Sheet → ℕ
@@ -36,6 +37,7 @@ used (And a b) = 2
 used (Or a b) = 2
 used (Exists a b c) = 3
 used (Forall a b c) = 3
+used (Gauge x) = 1
 
 -- the field x at a place of A B C is spare, behind the first n, and not 0
 abbrev pub spareAt : ℕ → ℕ → ℕ → Bool
@@ -53,6 +55,7 @@ names (And a b) = a ∷ (b ∷ [])
 names (Or a b) = a ∷ (b ∷ [])
 names (Exists a b c) = a ∷ []
 names (Forall a b c) = a ∷ []
+names (Gauge x) = []
 
 -- one of them is not before k
 unfoldable pub someLate : ℕ → List ℕ → Bool
@@ -74,6 +77,7 @@ badVariables F (And a b) = false
 badVariables F (Or a b) = false
 badVariables F (Exists a b c) = badRange F b c
 badVariables F (Forall a b c) = badRange F b c
+badVariables F (Gauge x) = badInput F x
 
 -- a frame of this kind binds the variable v
 unfoldable pub binds : Kind → ℕ → Bool
@@ -84,17 +88,64 @@ binds (And a b) v = false
 binds (Or a b) v = false
 binds (Exists a b c) v = within b c v
 binds (Forall a b c) v = within b c v
+binds (Gauge x) v = false
 
--- some frame before k binds v, reached from the last frame or not
-unfoldable pub boundBefore : (ℕ → Kind) → ℕ → ℕ → Bool
-boundBefore κ zero v = false
-boundBefore κ (suc k) v = boundBefore κ k v || binds (κ k) v
+-- names it by an INPUT
+unfoldable pub namesInput : Kind → ℕ → Bool
+namesInput Never v = false
+namesInput (Input x) v = eqb v x
+namesInput (Not a) v = false
+namesInput (And a b) v = false
+namesInput (Or a b) v = false
+namesInput (Exists a b c) v = false
+namesInput (Forall a b c) v = false
+namesInput (Gauge x) v = false
+
+-- names it as a gauge
+unfoldable pub namesGauge : Kind → ℕ → Bool
+namesGauge Never v = false
+namesGauge (Input x) v = false
+namesGauge (Not a) v = false
+namesGauge (And a b) v = false
+namesGauge (Or a b) v = false
+namesGauge (Exists a b c) v = false
+namesGauge (Forall a b c) v = false
+namesGauge (Gauge x) v = eqb v x
+
+-- some frame before k does p to v, reached from the last frame or not
+unfoldable pub someBefore : (Kind → ℕ → Bool) → (ℕ → Kind) → ℕ → ℕ → Bool
+someBefore p κ zero v = false
+someBefore p κ (suc k) v = someBefore p κ k v || p (κ k) v
+
+abbrev pub boundBefore : (ℕ → Kind) → ℕ → ℕ → Bool
+boundBefore κ k v = someBefore binds κ k v
+
+-- the gauges of a sheet, as a word
+unfoldable pub gauges : Sheet → ℕ
+gauges s = maskOf (variables s) (someBefore namesGauge (kind s) (frames s))
+
+-- what the frames before one do to the variables
+pub record Past : Type 0 where
+  pub bound : ℕ → Bool
+  pub inputs : ℕ → Bool
+  pub gauges : ℕ → Bool
+
+abbrev pub pastOf : (ℕ → Kind) → ℕ → Past
+pastOf κ k = record { bound = someBefore binds κ k; inputs = someBefore namesInput κ k; gauges = someBefore namesGauge κ k }
 
 -- p and q have a variable in common
 unfoldable pub meet : Form → (ℕ → Bool) → (ℕ → Bool) → Bool
 meet F p q = someBelow (Sizes.variables F) (λ v. p v && q v)
 
--- ---- the causes in document 01's order
+-- a frame of kind d names by an INPUT a variable that was named as a gauge, or the other way round
+unfoldable pub namedBoth : Form → Kind → Past → Bool
+namedBoth F d p = meet F (namesInput d) (p .gauges) || meet F (namesGauge d) (p .inputs)
+
+-- it binds a variable that was named as a gauge, or the other way round
+unfoldable pub bindsGauge : Form → Kind → Past → Bool
+bindsGauge F d p = meet F (binds d) (p .gauges) || meet F (namesGauge d) (p .bound)
+
+-- ---- the causes in document 01's order, with document 02's 22 and 23 between 9 and 10
 
 abbrev pub cause : Bool → ℕ → ℕ → Cause
 cause t n k = record { holds = t; number = n; place = k }
@@ -108,20 +159,22 @@ lengthCauses F n =
 abbrev pub sizeCauses : Sheet → List Cause
 sizeCauses s = lengthCauses (s .form) (length (s .bytes))
 
--- of frame k with the fields f, where earlier frames bind the variables of p
-unfoldable pub fieldCauses : Form → Fields → ℕ → (ℕ → Bool) → List Cause
+-- of frame k with the fields f, behind frames that do p
+unfoldable pub fieldCauses : Form → Fields → ℕ → Past → List Cause
 fieldCauses F f k p =
-    cause (ltb 6 (f .k)) Number.kindUnknown k
+    cause (ltb 7 (f .k)) Number.kindUnknown k
     ∷ (cause (spareSet (used (kindOf f)) (f .a) (f .b) (f .c)) Number.spareUsed k
     ∷ (cause (someLate k (names (kindOf f))) Number.notEarlier k
     ∷ (cause (badVariables F (kindOf f)) Number.rangeBroken k
-    ∷ (cause (meet F (binds (kindOf f)) p) Number.boundTwice k ∷ []))))
+    ∷ (cause (namedBoth F (kindOf f) p) Number.inputAndGauge k
+    ∷ (cause (bindsGauge F (kindOf f) p) Number.gaugeBound k
+    ∷ (cause (meet F (binds (kindOf f)) (p .bound)) Number.boundTwice k ∷ []))))))
 
-abbrev pub causesOf : Sheet → ℕ → (ℕ → Bool) → List Cause
+abbrev pub causesOf : Sheet → ℕ → Past → List Cause
 causesOf s k p = fieldCauses (s .form) (fieldsAt s k) k p
 
 abbrev pub causesAt : Sheet → ℕ → List Cause
-causesAt s k = causesOf s k (boundBefore (kind s) k)
+causesAt s k = causesOf s k (pastOf (kind s) k)
 
 -- frame by frame, below k
 unfoldable pub causesBelow : Sheet → ℕ → List Cause

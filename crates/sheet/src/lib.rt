@@ -34,6 +34,8 @@ pub enum Kind {
     Or(u16, u16),
     Exists(u16, u16, u16),
     Forall(u16, u16, u16),
+    // Document 02's gauge: an INPUT of a variable that is read off and never chosen.
+    Gauge(u16),
 }
 
 pub struct Frame {
@@ -41,7 +43,7 @@ pub struct Frame {
     pub kind: Kind,
 }
 
-// The kind that a frame's fields say; a code above 6 gives `Never`.
+// The kind that a frame's fields say; a code above 7 gives `Never`.
 fn kind_of(f: Fields) -> Kind
     ensures { λ r. ⌜ r ≡ kindOf f ⌝ }
 {
@@ -56,6 +58,7 @@ fn kind_of(f: Fields) -> Kind
         4 => Kind::Or(x, y),
         5 => Kind::Exists(x, y, z),
         6 => Kind::Forall(x, y, z),
+        7 => Kind::Gauge(x),
         _ => Kind::Never,
     }
 }

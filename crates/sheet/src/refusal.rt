@@ -37,6 +37,10 @@ pub const QUESTION_BROKEN: u8 = 18;
 
 pub const QUESTION_TOO_LARGE: u8 = 19;
 
+pub const INPUT_AND_GAUGE: u8 = 22;
+
+pub const GAUGE_BOUND: u8 = 23;
+
 pub const ENTER_DESK: u8 = 24;
 
 pub const OTHER_FORM: u8 = 29;

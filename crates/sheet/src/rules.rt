@@ -1,15 +1,14 @@
-// Document 01's causes to refuse a sheet, each as a test of its length or of one frame.
+// Document 01's causes to refuse a sheet, and document 02's for gauges, each as a test of its length or of one frame.
 ghost use mathlib.Core.Path.{_≡_};
 ghost use mathlib.Core.Bool.{false};
 ghost use Prim.Native.Nat.{_+_, _^_, _<_, _≤_};
-ghost use Rattle.words.specs.Word.{bit};
 ghost use Rattle.words.specs.Mask.{rangeMask};
 ghost use Rattle.form.specs.Form as Sizes;
 ghost use Rattle.sheet.specs.Cause.{first};
 ghost use Rattle.sheet.specs.Fields.{sheetOf};
 ghost use Rattle.sheet.specs.Rules as Rules;
 ghost use Rattle.sheet.specs.Rules.{lengthCauses, fieldCauses, causesOf, someLate, names};
-ghost use Rattle.sheet.specs.Check.{boundMask, variablesFault};
+ghost use Rattle.sheet.specs.Check.{boundMask, inputMask, gaugeMask, pastBy, seenAfter, variablesFault};
 use crate::Fields;
 use crate::Kind;
 use crate::kind_of;
@@ -49,6 +48,7 @@ fn used(kind: Kind) -> u8
         Kind::Or(_, _) => 2,
         Kind::Exists(_, _, _) => 3,
         Kind::Forall(_, _, _) => 3,
+        Kind::Gauge(_) => 1,
     }
 }
 
@@ -84,6 +84,7 @@ fn some_late(kind: Kind, number: u16) -> bool
         Kind::Or(x, y) => number <= x || number <= y,
         Kind::Exists(x, _, _) => number <= x,
         Kind::Forall(x, _, _) => number <= x,
+        Kind::Gauge(_) => false,
     }
 }
 
@@ -132,6 +133,7 @@ fn bad_variables(form: Form, kind: Kind) -> bool
         Kind::Or(_, _) => false,
         Kind::Exists(_, b, c) => bad_range(form, b, c),
         Kind::Forall(_, b, c) => bad_range(form, b, c),
+        Kind::Gauge(x) => bad_input(form, x),
     }
 }
 
@@ -152,7 +154,7 @@ pub fn input_word(x: u16) -> u64
 }
 
 // The variables that a frame of this kind binds.
-pub fn bound_word(form: Form, kind: Kind) -> u64
+fn bound_word(form: Form, kind: Kind) -> u64
     requires { ⌜ Rules.badVariables form kind ≡ false ⌝ }
     ensures { λ r. ⌜ r ≡ boundMask kind ⌝ }
 {
@@ -164,27 +166,120 @@ pub fn bound_word(form: Form, kind: Kind) -> u64
         Kind::Or(_, _) => 0,
         Kind::Exists(_, b, c) => range_word(b, c),
         Kind::Forall(_, b, c) => range_word(b, c),
+        Kind::Gauge(_) => 0,
     }
 }
 
-// The first of the causes 9 and 10 that holds at a frame, or 0; bound are the variables that earlier frames bind.
-fn variables_fault(form: Form, kind: Kind, bound: u64) -> u8
-    ensures { λ r. ⌜ r ≡ variablesFault form kind (bit bound) ⌝ }
+// Those that it names by an INPUT.
+fn named_input(form: Form, kind: Kind) -> u64
+    requires { ⌜ Rules.badVariables form kind ≡ false ⌝ }
+    ensures { λ r. ⌜ r ≡ inputMask kind ⌝ }
+{
+    match kind {
+        Kind::Never => 0,
+        Kind::Input(x) => input_word(x),
+        Kind::Not(_) => 0,
+        Kind::And(_, _) => 0,
+        Kind::Or(_, _) => 0,
+        Kind::Exists(_, _, _) => 0,
+        Kind::Forall(_, _, _) => 0,
+        Kind::Gauge(_) => 0,
+    }
+}
+
+// Those that it names as gauges.
+fn named_gauge(form: Form, kind: Kind) -> u64
+    requires { ⌜ Rules.badVariables form kind ≡ false ⌝ }
+    ensures { λ r. ⌜ r ≡ gaugeMask kind ⌝ }
+{
+    match kind {
+        Kind::Never => 0,
+        Kind::Input(_) => 0,
+        Kind::Not(_) => 0,
+        Kind::And(_, _) => 0,
+        Kind::Or(_, _) => 0,
+        Kind::Exists(_, _, _) => 0,
+        Kind::Forall(_, _, _) => 0,
+        Kind::Gauge(x) => input_word(x),
+    }
+}
+
+// The variables that earlier frames bind, name by an INPUT, and name as gauges.
+pub struct Seen {
+    pub bound: u64,
+    pub inputs: u64,
+    pub gauges: u64,
+}
+
+// The same behind a frame of this kind.
+pub fn seen_after(form: Form, kind: Kind, seen: Seen) -> Seen
+    requires { ⌜ Rules.badVariables form kind ≡ false ⌝ }
+    ensures { λ r. ⌜ r ≡ seenAfter seen kind ⌝ }
+{
+    Seen {
+        bound: seen.bound | bound_word(form, kind),
+        inputs: seen.inputs | named_input(form, kind),
+        gauges: seen.gauges | named_gauge(form, kind),
+    }
+}
+
+// Whether a frame names by an INPUT what was named as a gauge, or the other way round.
+fn named_both(form: Form, kind: Kind, seen: Seen) -> bool
+    requires { ⌜ Rules.badVariables form kind ≡ false ⌝ }
+    ensures { λ r. ⌜ r ≡ Rules.namedBoth form kind (pastBy seen) ⌝ }
+{
+    if named_input(form, kind) & seen.gauges != 0 {
+        return true;
+    }
+    named_gauge(form, kind) & seen.inputs != 0
+}
+
+// Whether it binds what was named as a gauge, or the other way round.
+fn binds_gauge(form: Form, kind: Kind, seen: Seen) -> bool
+    requires { ⌜ Rules.badVariables form kind ≡ false ⌝ }
+    ensures { λ r. ⌜ r ≡ Rules.bindsGauge form kind (pastBy seen) ⌝ }
+{
+    if bound_word(form, kind) & seen.gauges != 0 {
+        return true;
+    }
+    named_gauge(form, kind) & seen.bound != 0
+}
+
+// Whether it binds what was bound.
+fn binds_again(form: Form, kind: Kind, seen: Seen) -> bool
+    requires { ⌜ Rules.badVariables form kind ≡ false ⌝ }
+    ensures { λ r. ⌜ r ≡ Rules.meet form (Rules.binds kind) (pastBy seen .bound) ⌝ }
+{
+    bound_word(form, kind) & seen.bound != 0
+}
+
+// The first of the causes 9, 22, 23 and 10 that holds at a frame, in this order, or 0.
+fn variables_fault(form: Form, kind: Kind, seen: Seen) -> u8
+    ensures { λ r. ⌜ r ≡ variablesFault form kind (pastBy seen) ⌝ }
 {
     if bad_variables(form, kind) {
         return refusal::RANGE_BROKEN;
     }
-    if bound_word(form, kind) & bound != 0 {
+    let mixed = named_both(form, kind, seen);
+    let gauge = binds_gauge(form, kind, seen);
+    let again = binds_again(form, kind, seen);
+    if mixed {
+        return refusal::INPUT_AND_GAUGE;
+    }
+    if gauge {
+        return refusal::GAUGE_BOUND;
+    }
+    if again {
         return refusal::BOUND_TWICE;
     }
     0
 }
 
-// The first of the causes 6 to 10 by the frame's fields, or 0.
-fn frame_fault(form: Form, f: Fields, number: u16, bound: u64) -> u8
-    ensures { λ r. ⌜ r ≡ first (fieldCauses form f number (bit bound)) .number ⌝ }
+// The first cause by the frame's fields, or 0: 6 to 8 before those of its variables.
+fn frame_fault(form: Form, f: Fields, number: u16, seen: Seen) -> u8
+    ensures { λ r. ⌜ r ≡ first (fieldCauses form f number (pastBy seen)) .number ⌝ }
 {
-    if f.k > 6 {
+    if f.k > 7 {
         return refusal::KIND_UNKNOWN;
     }
     let kind = kind_of(f);
@@ -196,15 +291,15 @@ fn frame_fault(form: Form, f: Fields, number: u16, bound: u64) -> u8
     if late {
         return refusal::NOT_EARLIER;
     }
-    variables_fault(form, kind, bound)
+    variables_fault(form, kind, seen)
 }
 
 // The same for the frame of that number.
-pub fn fault_at(sheet: &[u8], form: Form, number: usize, bound: u64) -> u8
+pub fn fault_at(sheet: &[u8], form: Form, number: usize, seen: Seen) -> u8
     requires { ⌜ number < 3000 ⌝ }
-    ensures { λ r. ⌜ r ≡ first (causesOf (sheetOf form (now (sheet .entry))) number (bit bound)) .number ⌝ }
+    ensures { λ r. ⌜ r ≡ first (causesOf (sheetOf form (now (sheet .entry))) number (pastBy seen)) .number ⌝ }
 {
     let f = fields_at(sheet, form, number);
     let place = number as u16;
-    frame_fault(form, f, place, bound)
+    frame_fault(form, f, place, seen)
 }

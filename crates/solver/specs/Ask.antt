@@ -1,4 +1,5 @@
--- What ASK does beside the search: the smallest word from what was found, and the record that document 01 promises. Assumes nothing.
+-- ASK where every free variable that is not entered is ours to choose: the smallest word from what was found, and the record that document 01 promises.
+-- Assumes nothing.
 use Prim.Native.Nat.{ℕ, _+_, _-_, _%_, _<_}
 use native.Mathlib.Nat.{mod-eq-of-lt}
 use native.Mathlib.Omega.{arith}
@@ -7,14 +8,15 @@ use mathlib.Core.Bool.{Bool, true, false, not, _&&_}
 use mathlib.Core.List.{List}
 use lib.Bits.{bitAnd}
 use Rattle.words.specs.Logic.{clash}
-use Rattle.words.specs.Word.{bit}
-use Rattle.words.specs.Mask.{Sub, Apart, without, bit-without, sub-bits, bits-apart, bits-sub, and-sub, bits-masked, sub-lt, sub-refl, sub-trans, or-sum, or-sub, without-sub, without-apart, apart-sub, apart-sym}
+use Rattle.words.specs.Word.{bit, bit-none}
+use Rattle.words.specs.Mask.{Sub, Apart, without, bit-without, sub-bits, bits-apart, apart-bits, bits-sub, none-sub, and-sub, bits-masked, sub-lt, sub-refl, sub-trans, or-sum, or-sub, without-sub, without-apart, apart-sub, apart-sym}
 use Rattle.cube.specs.Cube.{Made, made-sub, made-same}
 use Rattle.formula.specs.Assignment.{Assignment}
 use Rattle.formula.specs.Formula.{Formula, truth}
 use Rattle.formula.specs.Reason.{Explains, explains-truth}
 use Rattle.formula.specs.ReasonWord.{word-values}
-use Rattle.formula.specs.Ask.{Bounded, freeMask, freeMask-lt, ask, yes, ask-chosen, ask-explained}
+use Rattle.formula.specs.Over.{over, over-none}
+use Rattle.formula.specs.Ask.{Verdict, Bounded, freeMask, freeMask-lt, ask, yes, ask-chosen, ask-explained}
 use Rattle.formula.specs.Ask as Question
 use Rattle.form.specs.Form.{wordEnd, end-power}
 use Rattle.form.specs.declared.Form.{Form}
@@ -27,9 +29,20 @@ use Rattle.records.specs.Both as Both
 use Rattle.net.specs.Layout.{netForm, framesOf, freeOf, formulaAt, val}
 use Rattle.net.specs.Sheet.{net-form}
 use Rattle.search.specs.Search.{Found, Lost}
-use Rattle.solver.specs.Contract.{last, root, Ready, TablesGrown, Promised, Same}
+use Rattle.solver.specs.Contract.{last, root, Ready, TablesGrown, Same}
 use Rattle.solver.specs.Across.{found-stands, lost-stands, root-stands, root-bounded, bit-opens, tables-net, grown-sheet}
-use Rattle.solver.specs.Question.{Asking}
+use Rattle.solver.specs.Question.{asked, Asking}
+
+-- document 01's promise after such an ASK: the table concerned is full, or holds a record of the last frame that agrees with the word (yes), or with the
+-- entries and with a mask inside the entered variables (no)
+abbrev pub PromisedChosen : Sheet → ℕ → ℕ → Verdict → List ℕ → ℕ → List ℕ → ℕ → Type 0
+PromisedChosen s mask values a u cu o co =
+    (a .holds ≡ true → Kept (s .form) u cu (last s) (freeMask (variables s) (root s)) (a .word))
+    × (a .holds ≡ false → Kept (s .form) o co (last s) mask values)
+
+-- with no mask, what is asked is the last frame
+pub asked-none : (net : List ℕ) → asked net 0 0 ≡ formulaAt net (framesOf net - 1)
+asked-none net = over-none false (over true 0 (formulaAt net (framesOf net - 1))) ∙ over-none true (formulaAt net (framesOf net - 1))
 
 -- a record that matches is kept, and the table stays true where the reason holds
 pub record Ensured (F : Form) (t : List ℕ) (count : ℕ) (t' : List ℕ) (count' frame assigned setting reason : ℕ) : Type 0 where
@@ -62,29 +75,48 @@ module _ {s : Sheet} {net : List ℕ} {mask values : ℕ} {u : List ℕ} {cu : �
 
   -- a question for the truth t over a cube m, w of entered variables
   pub ready-asking : (t : ℕ) {f loose m w : ℕ} → 0 < t → t < 3 → f ≡ freeOf net → loose ≡ without f m → Sub m mask → Sub w m
-      → Asking s net t loose m w u cu o co
-  ready-asking t a b e l i j = record {
-    net-of = R .net-of;
-    some = ready-some;
-    target-some = a;
-    target-low = b;
+      → Asking s net t loose 0 0 m w u cu o co
+  ready-asking t {f} {loose} {m} a b e l i j = record {
+    masks = record {
+      net-of = R .net-of;
+      frames = ready-some;
+      target-some = a;
+      target-low = b;
+      loose-free = rw is (without-sub (freeOf net) m);
+      all-free = none-sub (freeOf net);
+      some-free = none-sub (freeOf net);
+      some-all = apart-none 0;
+      inner-loose = apart-none loose;
+    };
     assigned = sub-trans i (R .entered);
     valued = j;
-    loose-is = rw e at l;
+    fixed = rw is (without-apart (freeOf net) m);
+    whole = λ x h g. go (bit (freeOf net) x) (bit m x) h (sym (bit-without (freeOf net) m x) ∙ ap (λ (z : ℕ). bit z x) (sym is) ∙ g);
     tables = tables-net (R .net-of) (R .tables);
   }
+    where
+      is : loose ≡ without (freeOf net) m
+      is = rw e at l
+
+      apart-none : (m : ℕ) → Apart 0 m
+      apart-none m = apart-bits 0 m (λ k h. clash (bit 0 k) h (bit-none k))
+
+      go : (p q : Bool) → p ≡ true → (p && not q) ≡ false → q ≡ true
+      go true true e f = refl
+      go true false e f = sym f
+      go false q e f = clash false e refl
 
   -- over the entries
   pub entered-asking : (t : ℕ) {f loose m w : ℕ} → 0 < t → t < 3 → f ≡ freeOf net → loose ≡ without f mask → Made mask values m w
-      → Asking s net t loose m w u cu o co
+      → Asking s net t loose 0 0 m w u cu o co
   entered-asking t a b e l M = ready-asking t a b e (rw (M .mask) l) (rw (M .mask) (sub-refl mask)) (made-sub M)
 
   -- what is found or lost is so of the sheet
-  pub ready-found : {v : Bool} {loose w word r : ℕ} → Found (formulaAt net (framesOf net - 1)) v loose w word r → Found (root s) v loose w word r
-  ready-found h = found-stands (root-stands (R .net-of) ready-some) h
+  pub ready-found : {v : Bool} {loose w word r : ℕ} → Found (asked net 0 0) v loose w word r → Found (root s) v loose w word r
+  ready-found h = found-stands (root-stands (R .net-of) ready-some) (rw (asked-none net) at h)
 
-  pub ready-lost : {v : Bool} {loose w r : ℕ} → Lost (formulaAt net (framesOf net - 1)) v loose w r → Lost (root s) v loose w r
-  ready-lost h = lost-stands (root-stands (R .net-of) ready-some) h
+  pub ready-lost : {v : Bool} {loose w r : ℕ} → Lost (asked net 0 0) v loose w r → Lost (root s) v loose w r
+  ready-lost h = lost-stands (root-stands (R .net-of) ready-some) (rw (asked-none net) at h)
 
   pub ready-grown : {u' : List ℕ} {cu' : ℕ} {o' : List ℕ} {co' : ℕ}
       → Both.TablesGrown (netForm net) (formulaAt net) (framesOf net) u cu o co u' cu' o' co' → TablesGrown s u cu o co u' cu' o' co'
@@ -150,9 +182,9 @@ module _ {s : Sheet} {net : List ℕ} {mask values : ℕ} {u : List ℕ} {cu : �
     frame-is : n - 1 ≡ last s
     frame-is = rw (en, R .net-of .count) refl
 
-    pub answered-yes : {word r assigned setting reason : ℕ} {u2 : List ℕ} {c2 : ℕ} → Found (formulaAt net (framesOf net - 1)) (val 2) loose w word r
+    pub answered-yes : {word r assigned setting reason : ℕ} {u2 : List ℕ} {c2 : ℕ} → Found (asked net 0 0) (val 2) loose w word r
         → assigned ≡ f % wordEnd F → setting ≡ word % wordEnd F → reason ≡ r % wordEnd F → Ensured F u1 c1 u2 c2 (n - 1) assigned setting reason
-        → Same (ask (variables s) (root s) mask values) true word × TablesGrown s u cu o co u2 c2 o1 d1 × Promised s mask values (ask (variables s) (root s) mask values) u2 c2 o1 d1
+        → Same (ask (variables s) (root s) mask values) true word × TablesGrown s u cu o co u2 c2 o1 d1 × PromisedChosen s mask values (ask (variables s) (root s) mask values) u2 c2 o1 d1
     unfolding val
     answered-yes {assigned = assigned} h′ ea es er N′ =
         let h = ready-found h′ in
@@ -169,9 +201,9 @@ module _ {s : Sheet} {net : List ℕ} {mask values : ℕ} {u : List ℕ} {cu : �
           rw (a, ← R .net-of .opens) (λ t. N .kept (reason-free (h .explains)), λ t. clash true refl t),
         )
 
-    pub answered-no : {r assigned setting reason : ℕ} {o2 : List ℕ} {d2 : ℕ} → Lost (formulaAt net (framesOf net - 1)) (val 2) loose w r
+    pub answered-no : {r assigned setting reason : ℕ} {o2 : List ℕ} {d2 : ℕ} → Lost (asked net 0 0) (val 2) loose w r
         → assigned ≡ mask % wordEnd F → setting ≡ values % wordEnd F → reason ≡ r % wordEnd F → Ensured F o1 d1 o2 d2 (n - 1) assigned setting reason
-        → Same (ask (variables s) (root s) mask values) false 0 × TablesGrown s u cu o co u1 c1 o2 d2 × Promised s mask values (ask (variables s) (root s) mask values) u1 c1 o2 d2
+        → Same (ask (variables s) (root s) mask values) false 0 × TablesGrown s u cu o co u1 c1 o2 d2 × PromisedChosen s mask values (ask (variables s) (root s) mask values) u1 c1 o2 d2
     unfolding val
     answered-no h′ ea es er N′ =
         let h = ready-lost h′ in

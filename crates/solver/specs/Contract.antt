@@ -1,12 +1,15 @@
 -- What asking a sheet needs and gives: the contracts of `ask` and `why`. Assumes nothing.
-use Prim.Native.Nat.{ℕ}
+use Prim.Native.Nat.{ℕ, _+_}
 use mathlib.Core.Path.{_≡_}
 use mathlib.Core.Bool.{Bool, true, false}
 use mathlib.Core.List.{List}
+use lib.Bits.{bitOr}
 use Rattle.words.specs.Mask.{Sub}
 use Rattle.formula.specs.Ask.{Verdict, freeMask}
+use Rattle.formula.specs.Gauges.{unread, ours, verdict, reason}
 use Rattle.sheet.specs.Fields.{Sheet, frames, variables}
 use Rattle.sheet.specs.Frames.{formula}
+use Rattle.sheet.specs.Rules.{gauges}
 use Rattle.records.specs.Table.{Kept}
 use Rattle.records.specs.Both as Both
 use Rattle.net.specs.Layout.{freeOf}
@@ -30,12 +33,27 @@ pub record Ready (s : Sheet) (net : List ℕ) (mask values : ℕ) (u : List ℕ)
   pub valued : Sub values mask
   pub tables : Tables s u cu o co
 
--- document 01's promise after an ASK: the table concerned is full, or holds a record of the last frame that agrees with
--- the word (yes), or with the entries and with a mask inside the entered variables (no)
+-- what ASK and WHY say of the sheet, where the variables of mask are entered with these values
+abbrev pub verdictOf : Sheet → ℕ → ℕ → Verdict
+verdictOf s mask values = verdict (variables s) (root s) (gauges s) mask values
+
+abbrev pub reasonOf : Sheet → ℕ → ℕ → Verdict
+reasonOf s mask values = reason (variables s) (root s) (gauges s) mask values
+
+-- the gauges that are open and not entered
+abbrev pub unreadOf : Sheet → ℕ → ℕ
+unreadOf s mask = unread (variables s) (root s) (gauges s) mask
+
+-- and the other free variables that are not entered
+abbrev pub oursOf : Sheet → ℕ → ℕ
+oursOf s mask = ours (variables s) (root s) (gauges s) mask
+
+-- the promise after an ASK (document 01, with document 02's gauges): the table concerned is full, or holds a record of the last frame that agrees with the word (yes), or with the entries
+-- and the gauges of the word and with a mask inside the entered variables and the unread gauges (no)
 abbrev pub Promised : Sheet → ℕ → ℕ → Verdict → List ℕ → ℕ → List ℕ → ℕ → Type 0
 Promised s mask values a u cu o co =
     (a .holds ≡ true → Kept (s .form) u cu (last s) (freeMask (variables s) (root s)) (a .word))
-    × (a .holds ≡ false → Kept (s .form) o co (last s) mask values)
+    × (a .holds ≡ false → Kept (s .form) o co (last s) (bitOr mask (unreadOf s mask)) (values + a .word))
 
 -- an answer with its verdict v and word w is the one that the definitions give
 pub record Same (a : Verdict) (v : Bool) (w : ℕ) : Type 0 where

@@ -1,127 +1,190 @@
--- The net with a question's quantifier can be searched, and what the search finds there is found of the last frame. Assumes nothing.
+-- The net with a question's quantifiers can be searched, and what the search finds there is found of what is asked. Assumes nothing.
 use Prim.Native.Nat.{ℕ, _+_, _-_, _≤_, _<_}
 use native.Mathlib.Omega.{arith}
-use mathlib.Core.Path.{_≡_, refl, sym, _∙_, ap}
-use mathlib.Core.Bool.{Bool, true, false, not, _&&_}
+use native.Mathlib.Nat.{add-zero}
+use mathlib.Core.Path.{_≡_, refl, sym, _∙_, ap, subst}
+use mathlib.Core.Bool.{Bool, true, false, not}
 use mathlib.Core.List.{List}
 use lib.ListN.{length, replicate, length-replicate}
+use lib.Bits.{bitOr, or-zero-r}
 use Rattle.words.specs.Logic.{clash, and-both}
-use Rattle.words.specs.Word.{bit}
-use Rattle.words.specs.Mask.{Sub, Apart, without, bit-without, without-sum, without-sub, without-apart, apart-sub, apart-sym}
+use Rattle.words.specs.Word.{bit, bit-or, bit-none}
+use Rattle.words.specs.Mask.{Sub, Apart, without, without-sum, apart-bits, apart-sub, apart-sym, sub-or-right}
 use Rattle.formula.specs.Formula.{Formula, free}
+use Rattle.formula.specs.Over.{over, over-free, over-none}
 use Rattle.form.specs.declared.Form.{Form}
 use Rattle.sheet.specs.Fields.{Sheet}
 use Rattle.records.specs.Both.{TablesGrown}
-use Rattle.net.specs.Over.{over-free}
 use Rattle.net.specs.Net.{Binds, at-binds}
 use Rattle.net.specs.Stands.{Stands, stands-refl}
 use Rattle.net.specs.Layout.{netWords, netForm, form-same, framesOf, freeOf, packed, formulaAt, Ground, HasNode, Is, val, decides}
 use Rattle.net.specs.Sheet.{net-form}
-use Rattle.net.specs.Own.{Chosen}
-use Rattle.net.specs.OwnLaws.{chosen-count, chosen-long, chosen-ground, chosen-same, chosen-node, chosen-clear, is-chosen, is-chosen-val}
+use Rattle.net.specs.Own.{Chosen, Stacked}
+use Rattle.net.specs.OwnLaws.{stacked-none, stacked-more, chosen-same, chosen-node, chosen-formula, is-chosen, is-chosen-val}
 use Rattle.judge.specs.Judge.{Judged}
 use Rattle.judge.specs.JudgeLaws.{judged-none}
-use Rattle.search.specs.Search.{Solved, Checked, Lent}
+use Rattle.search.specs.Search.{Settled, Solved, Checked, Lent}
 use Rattle.solver.specs.Across.{tables-stands, grown-stands, root-stands, bit-opens}
-use Rattle.solver.specs.Question.{Asking, Scratch}
+use Rattle.solver.specs.Question.{asked, Masks, Asking, Layered, Placed, Scratch}
 
 -- scratch that is all 0, of n words
-pub blank-scratch : (n : ℕ) {net cells wants : List ℕ} → length net ≤ 66 + n → cells ≡ replicate n 0 → wants ≡ replicate n 0 → Scratch net cells wants
+pub blank-scratch : (n : ℕ) {net cells wants : List ℕ} → length net ≤ 67 + n → cells ≡ replicate n 0 → wants ≡ replicate n 0 → Scratch net cells wants
 blank-scratch n l ec ew = record { words = n; enough = l; empty = ec; wanted = rw (ew, length-replicate) }
 
 -- how many words the net of a question has, by the form that it tells
-pub asked-words : {s : Sheet} {net : List ℕ} {t loose m w : ℕ} {u : List ℕ} {cu : ℕ} {o : List ℕ} {co : ℕ} → Asking s net t loose m w u cu o co
+pub asked-words : {s : Sheet} {net : List ℕ} {t loose all some m w : ℕ} {u : List ℕ} {cu : ℕ} {o : List ℕ} {co : ℕ} → Asking s net t loose all some m w u cu o co
     → (F : Form) → netForm net ≡ F → length net ≡ netWords F
-asked-words A F e = A .net-of .long ∙ ap netWords (sym (net-form (A .net-of)) ∙ e)
+asked-words A F e = A .masks .net-of .long ∙ ap netWords (sym (net-form (A .masks .net-of)) ∙ e)
 
-module _ {s : Sheet} {net : List ℕ} {t loose m w : ℕ} {u : List ℕ} {cu : ℕ} {o : List ℕ} {co : ℕ} (A : Asking s net t loose m w u cu o co)
-    {net′ : List ℕ} (C : Chosen net t loose net′) where
-  loose-sub : Sub loose (freeOf net)
-  loose-sub = rw (A .loose-is) (without-sub (freeOf net) m)
+-- ---- the quantifiers put
 
-  loose-apart : Apart loose m
-  loose-apart = rw (A .loose-is) (without-apart (freeOf net) m)
+-- no variable, no node
+pub layer-none : {net : List ℕ} {i d mask : ℕ} → mask ≡ 0 → Layered net i d mask net i
+layer-none {net} {i} {d} {mask} e = record {
+  low = omega arith;
+  each = λ s base used S inside fresh. (rw (e, or-zero-r used) S, rw (e, over-none (val d) (formulaAt net (framesOf base + i - 1))));
+}
 
+pub layer-put : {net : List ℕ} {i d mask : ℕ} {net′ : List ℕ} → i < 3 → Chosen net i d mask net′ → Layered net i d mask net′ (i + 1)
+layer-put {net} {i} {d} {mask} {net′} l C = record {
+  low = omega arith;
+  each = λ s base used S inside fresh.
+      let here : framesOf base + (i + 1) - 1 ≡ framesOf net + i = omega (arith, S .frames-same) in
+      let below : framesOf net + i - 1 ≡ framesOf base + i - 1 = omega (arith, S .frames-same) in (
+        stacked-more S l inside fresh C,
+        ap (formulaAt net′) here ∙ chosen-formula S l inside fresh C ∙ ap (λ (k : ℕ). over (val d) mask (formulaAt net k)) below,
+      );
+}
+
+-- the question, step by step
+module _ {s : Sheet} {net : List ℕ} {t loose all some : ℕ} (M : Masks s net t loose all some) where
+  no-mask : (m : ℕ) → Apart 0 m
+  no-mask m = apart-bits 0 m (λ k e. clash (bit 0 k) e (bit-none k))
+
+  module _ {n₁ : List ℕ} {r₁ : ℕ} (L : Layered net 0 2 some n₁ r₁) where
+    pub first-stacked : Stacked s net n₁ r₁ some
+    first-stacked = L .each s net 0 (stacked-none (M .net-of) (M .frames)) (M .some-free) (no-mask some) .0
+
+    module _ {n₂ : List ℕ} {r₂ : ℕ} (K : Layered n₁ r₁ 1 all n₂ r₂) where
+      pub second-stacked : Stacked s net n₂ r₂ (bitOr some all)
+      second-stacked = K .each s net some first-stacked (M .all-free) (M .some-all) .0
+
+      second-body : formulaAt n₂ (framesOf net + r₂ - 1) ≡ asked net all some
+      unfolding val
+      second-body =
+          K .each s net some first-stacked (M .all-free) (M .some-all) .1
+          ∙ ap (over false all) (L .each s net 0 (stacked-none (M .net-of) (M .frames)) (M .some-free) (no-mask some) .1
+          ∙ ap (λ (k : ℕ). over true some (formulaAt net (k - 1))) (add-zero (framesOf net)))
+
+      pub second-low : r₂ < 3
+      second-low = omega (arith, L .low, K .low)
+
+      pub pose-placed : {net′ : List ℕ} {n own : ℕ} → Chosen n₂ r₂ t loose net′ → n ≡ framesOf net′ → own ≡ n + r₂ → Placed s net t loose all some net′ own
+      pose-placed {net′} {n} {own} C en eo =
+          let S = second-stacked in
+          let T = stacked-more S second-low (M .loose-free) (M .inner-loose) C in
+          let place : own ≡ framesOf n₂ + r₂ = omega (arith, T .frames-same, S .frames-same) in
+          let before : framesOf n₂ + r₂ - 1 ≡ framesOf net + r₂ - 1 = omega (arith, S .frames-same) in
+          record {
+            count = r₂;
+            stacked = T;
+            here = omega (arith, T .frames-same);
+            node = rw place (chosen-node S second-low (M .loose-free) (M .inner-loose) C);
+            body =
+                ap (λ (k : ℕ). formulaAt net′ (k - 1)) place
+                ∙ chosen-same S second-low (M .loose-free) (M .inner-loose) C (framesOf n₂ + r₂ - 1) (omega (arith, S .frames-same, M .frames))
+                ∙ ap (formulaAt n₂) before
+                ∙ second-body;
+          }
+
+-- ---- the question searched
+
+module _ {s : Sheet} {net : List ℕ} {t loose all some m w : ℕ} {u : List ℕ} {cu : ℕ} {o : List ℕ} {co : ℕ} (A : Asking s net t loose all some m w u cu o co)
+    {net′ : List ℕ} {own : ℕ} (P : Placed s net t loose all some net′ own) where
   -- the values are outside the loose variables
   kept-values : without w loose ≡ w
-  kept-values = omega (arith, without-sum w loose, apart-sym (apart-sub loose-apart (A .valued)) .none)
+  kept-values = omega (arith, without-sum w loose, apart-sub (apart-sym (apart-sub (A .fixed) (A .valued))) (sub-or-right (bitOr some all) loose) .none)
 
   frame-stands : (k : ℕ) → k < framesOf net → Stands (formulaAt net k) (formulaAt net′ k)
-  frame-stands k l = rw (chosen-same (A .net-of) loose-sub C k l) (stands-refl (formulaAt net k))
+  frame-stands k l = rw (P .stacked .same k l) (stands-refl (formulaAt net k))
 
   frame-stood : (k : ℕ) → k < framesOf net′ → Stands (formulaAt net′ k) (formulaAt net k)
-  frame-stood k l = rw (chosen-same (A .net-of) loose-sub C k (omega (arith, l, chosen-count (A .net-of) loose-sub C))) (stands-refl (formulaAt net k))
+  frame-stood k l = rw (P .stacked .same k (omega (arith, P .stacked .frames-same))) (stands-refl (formulaAt net k))
 
   pub asked-ground : Ground net′
-  asked-ground = chosen-ground (A .net-of) loose-sub C
+  asked-ground = P .stacked .ground
 
-  -- the quantifier reads the free variables that are not loose, which the cube fixes
-  covered : (x : ℕ) → free (formulaAt net′ (framesOf net′)) x ≡ true → bit m x ≡ true
+  pub asked-room : HasNode net′ own
+  asked-room = omega (arith, asked-ground .room, P .here, P .stacked .within, P .stacked .frames-same)
+
+  own-some : 0 < own
+  own-some = omega (arith, P .here, A .masks .frames)
+
+  -- the question reads the free variables of no mask, which the cube fixes
+  covered : (x : ℕ) → free (formulaAt net′ own) x ≡ true → bit m x ≡ true
   covered x e =
-      let h = and-both (free (formulaAt net′ (framesOf net - 1)) x) (not (bit loose x))
-      (sym (ap (λ (f : Formula). free f x) (at-binds (asked-ground .ordered) (chosen-node (A .net-of) loose-sub C)) ∙ over-free (val t) loose (formulaAt net′ (framesOf net - 1)) x) ∙ e) in
-      let q : free (formulaAt net (framesOf net - 1)) x ≡ true =
-      sym (frame-stands (framesOf net - 1) (omega (arith, A .some)) .reads x) ∙ h .0 in
-      go (bit (freeOf net) x) (bit m x)
-      (bit-opens (A .net-of) (A .some) x ∙ sym (root-stands (A .net-of) (A .some) .reads x) ∙ q)
-      (ap not (sym (bit-without (freeOf net) m x) ∙ ap (λ (z : ℕ). bit z x) (sym (A .loose-is))) ∙ h .1)
+      let f = formulaAt net (framesOf net - 1) in
+      let p = and-both (free (asked net all some) x) (not (bit loose x))
+      (sym (ap (λ (g : Formula). free g x) (at-binds (asked-ground .ordered) (P .node) ∙ ap (over (val t) loose) (P .body)) ∙ over-free (val t) loose (asked net all some) x) ∙ e) in
+      let q = and-both (free (over true some f) x) (not (bit all x)) (sym (over-free false all (over true some f) x) ∙ p .0) in
+      let r = and-both (free f x) (not (bit some x)) (sym (over-free true some f x) ∙ q .0) in
+      A .whole x
+      (bit-opens (A .masks .net-of) (A .masks .frames) x ∙ sym (root-stands (A .masks .net-of) (A .masks .frames) .reads x) ∙ r .0)
+      (bit-or (bitOr some all) loose x ∙ rw (bit-or some all x, off (bit some x) (r .1), off (bit all x) (q .1), off (bit loose x) (p .1)))
     where
-      go : (a b : Bool) → a ≡ true → not (a && not b) ≡ true → b ≡ true
-      go true true e f = refl
-      go true false e f = f
-      go false b e f = clash false e refl
+      off : (b : Bool) → not b ≡ true → b ≡ false
+      off true h = sym h
+      off false h = refl
 
   same-form : netForm net′ ≡ netForm net
-  same-form = form-same net net′ (chosen-long (A .net-of) loose-sub C)
+  same-form = form-same net net′ (P .stacked .long)
 
   -- in scratch that is all 0 nothing is known
   pub asked-blank : {cells wants : List ℕ} → Scratch net cells wants → Judged net′ m w cells
-  asked-blank S = judged-none (S .words) (S .empty) (omega (arith, chosen-long (A .net-of) loose-sub C, S .enough))
+  asked-blank S = judged-none (S .words) (S .empty) (omega (arith, P .stacked .long, S .enough))
 
-  pub asked-checked : {i : ℕ} {cells : List ℕ} → i ≡ framesOf net′ → Judged net′ m w cells → Checked net′ i m w cells
-  asked-checked e j = rw e (record {
+  pub asked-checked : {cells : List ℕ} → Judged net′ m w cells → Checked net′ own m w cells
+  asked-checked j = record {
     ground = asked-ground;
-    here = omega arith;
+    here = omega (arith, P .here, P .stacked .within, P .stacked .frames-same);
     covers = record { all = covered };
-    clear = chosen-clear (A .net-of) loose-sub C (A .assigned) loose-apart;
+    clear = P .stacked .clear (A .assigned) (A .fixed) own;
     judged = j;
-  })
+  }
 
   pub asked-lent : {cells wants : List ℕ} → Scratch net cells wants → Lent net′ wants u cu o co
   asked-lent S = record {
-    long = omega (arith, chosen-long (A .net-of) loose-sub C, S .enough, S .wanted);
-    tables = tables-stands frame-stood (rw (chosen-count (A .net-of) loose-sub C, same-form) (A .tables));
+    long = omega (arith, P .stacked .long, S .enough, S .wanted);
+    tables = tables-stands frame-stood (rw (P .stacked .frames-same, same-form) (A .tables));
   }
 
-  module _ {i op left right mask : ℕ} (e : i ≡ framesOf net′) (I : Is net′ i op left right mask) where
-    here-is : packed net′ i ≡ Binds (val t) loose (framesOf net - 1)
-    here-is = rw e (chosen-node (A .net-of) loose-sub C)
-
+  module _ {op left right mask : ℕ} (I : Is net′ own op left right mask) where
     pub asked-binds : 6 ≤ op
-    asked-binds = is-chosen I here-is .0
+    asked-binds = is-chosen I (P .node) .0
 
     same-mask : mask ≡ loose
-    same-mask = is-chosen I here-is .2
+    same-mask = is-chosen I (P .node) .2
 
-    same-left : left ≡ framesOf net - 1
-    same-left = is-chosen I here-is .3
+    same-left : left ≡ own - 1
+    same-left = is-chosen I (P .node) .3
 
     -- there is a place for its body
     pub asked-body : HasNode net′ left
-    asked-body = rw same-left (omega (arith, asked-ground .room, chosen-count (A .net-of) loose-sub C))
+    asked-body = omega (arith, asked-room, same-left)
 
     same-truth : decides op ≡ t
-    same-truth = is-chosen-val I here-is (A .target-some) (A .target-low) .1
+    same-truth = is-chosen-val I (P .node) (A .masks .target-some) (A .masks .target-low) .1
 
-    same-body : formulaAt net′ (framesOf net - 1) ≡ formulaAt net (framesOf net - 1)
-    same-body = chosen-same (A .net-of) loose-sub C (framesOf net - 1) (omega (arith, A .some))
+    same-body : formulaAt net′ left ≡ asked net all some
+    same-body = ap (formulaAt net′) same-left ∙ P .body
 
     -- what is found at the quantifier
-    pub asked-solved : (found : Bool) (word r : ℕ) → Solved net′ left (decides op) mask (without w mask) found word r → Solved net (framesOf net - 1) t loose w found word r
-    asked-solved true word r h = rw (same-mask, same-left, same-truth, kept-values, same-body) at h
-    asked-solved false word r h = rw (same-mask, same-left, same-truth, kept-values, same-body) at h
+    pub asked-solved : (found : Bool) (word r : ℕ) → Solved net′ left (decides op) mask (without w mask) found word r → Settled (asked net all some) t loose w found word r
+    asked-solved found word r h =
+        subst (λ (g : Formula). Settled g t loose w found word r) same-body
+        (rw (same-mask, same-truth, kept-values) at h)
 
   -- and the tables that the search leaves
   pub asked-grown : {u' : List ℕ} {cu' : ℕ} {o' : List ℕ} {co' : ℕ}
       → TablesGrown (netForm net′) (formulaAt net′) (framesOf net′) u cu o co u' cu' o' co' → TablesGrown (netForm net) (formulaAt net) (framesOf net) u cu o co u' cu' o' co'
-  asked-grown G = grown-stands frame-stands (rw (chosen-count (A .net-of) loose-sub C, same-form) at G)
+  asked-grown G = grown-stands frame-stands (rw (P .stacked .frames-same, same-form) at G)

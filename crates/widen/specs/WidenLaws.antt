@@ -94,7 +94,7 @@ module _ (s : List ℕ) where
 
 -- ---- the contract, from what the code has
 
-module _ (s out : List ℕ) {number place free : ℕ} (c : Checks (sheetCauses (narrow s)) (narrow s) number place free) where
+module _ (s out : List ℕ) {number place free gauges : ℕ} (c : Checks (sheetCauses (narrow s)) (narrow s) number place free gauges) where
   own-cause : (number ≡ 0 → ⊥) → someHolds (sheetCauses (narrow s)) ≡ true
   own-cause z = by-bool (someHolds (sheetCauses (narrow s)))
       (λ e. e)

@@ -60,15 +60,13 @@ fn accepted(truth: &Truth, book: &mut Vec<Entry>, [k, a, b, c]: [u8; 4]) -> (u8,
         }
         0x11 => told(book.pop().unwrap()),
         0x12 => told(book[usize::from(a)]),
-        0x13 => match truth.ask(entered, values) {
-            Some(word) => (1, word),
-            None => (0, 0),
-        },
-        _ => {
-            let (verdict, left) = truth.why(entered, values);
-            (verdict.into(), left)
-        }
+        0x13 => answered(truth.ask(entered, values)),
+        _ => answered(truth.why(entered, values)),
     }
+}
+
+fn answered((verdict, word): (bool, u64)) -> (u8, u64) {
+    (verdict.into(), word)
 }
 
 /// V and the word that tell an entry: its variable, and 256 times its desk plus its value.

@@ -2,6 +2,7 @@
 //! variables: it is what the truth tables are checked against.
 
 use super::sheet::{Kind, Range, Sheet};
+use super::words::ascending;
 
 /// The value of a frame under a setting of all variables.
 fn value(sheet: &Sheet, frame: usize, setting: u64) -> bool {
@@ -22,35 +23,55 @@ fn ranged(setting: u64, range: Range) -> impl Iterator<Item = u64> {
     (0..1u64 << range.count).map(move |bits| rest | bits << range.first)
 }
 
-/// All words that are 0 off the mask, ascending.
-fn words(mask: u64) -> impl Iterator<Item = u64> {
-    let mut next = Some(0u64);
-    std::iter::from_fn(move || {
-        let word = next?;
-        next = if word == mask { None } else { Some((word | !mask).wrapping_add(1) & mask) };
-        Some(word)
-    })
-}
-
-pub fn ask(sheet: &Sheet, entered: u64, values: u64) -> Option<u64> {
+/// ASK's verdict and word.
+pub fn ask(sheet: &Sheet, entered: u64, values: u64) -> (bool, u64) {
     let last = sheet.frames.len() - 1;
-    words(sheet.open).find(|&word| word & entered == values && value(sheet, last, word))
+    let gauges = sheet.gauges & sheet.open & !entered;
+    // The words of the open variables that agree with the entries and this setting of the gauges, and make it true.
+    let words = |setting: u64| {
+        let agrees = move |word: &u64| word & entered == values && word & gauges == setting;
+        ascending(sheet.open).filter(agrees).filter(|&word| value(sheet, last, word))
+    };
+    for setting in ascending(gauges) {
+        if words(setting).next().is_none() {
+            return (false, setting);
+        }
+    }
+    (true, words(0).next().expect("a word for every setting of the gauges"))
 }
 
 pub fn why(sheet: &Sheet, entered: u64, values: u64) -> (bool, u64) {
-    let last = sheet.frames.len() - 1;
-    let asked = ask(sheet, entered, values);
-    let verdict = asked.is_some();
-    let mut left = if verdict { sheet.open } else { entered };
-    let values = asked.unwrap_or(values);
-    for variable in (0..sheet.form.variables()).rev() {
-        let mask = left & !(1 << variable);
-        let agreeing = |word: &u64| word & mask == values & mask;
-        if words(sheet.open).filter(agreeing).all(|word| value(sheet, last, word) == verdict) {
-            left = mask;
+    let (verdict, word) = ask(sheet, entered, values);
+    if sheet.gauges != 0 {
+        return (verdict, left(sheet, entered, |mask| verdict_stays(sheet, entered, values, mask, verdict)));
+    }
+    let (start, values) = if verdict { (sheet.open, word) } else { (entered, values) };
+    (verdict, left(sheet, start, |mask| truth_stays(sheet, values, mask, verdict)))
+}
+
+/// From the highest variable down, one is dropped if what would then be left is enough.
+fn left(sheet: &Sheet, start: u64, enough: impl Fn(u64) -> bool) -> u64 {
+    let mut left = start;
+    for variable in (0..sheet.form.variables()).rev().filter(|variable| start >> variable & 1 == 1) {
+        let fewer = left & !(1 << variable);
+        if enough(fewer) {
+            left = fewer;
         }
     }
-    (verdict, left)
+    left
+}
+
+/// All settings that agree with the values on the mask give the last frame that truth.
+fn truth_stays(sheet: &Sheet, values: u64, mask: u64, truth: bool) -> bool {
+    let last = sheet.frames.len() - 1;
+    let agreeing = |word: &u64| word & mask == values & mask;
+    ascending(sheet.open).filter(agreeing).all(|word| value(sheet, last, word) == truth)
+}
+
+/// All entries of the same variables that agree with the values on the mask get that verdict.
+fn verdict_stays(sheet: &Sheet, entered: u64, values: u64, mask: u64, verdict: bool) -> bool {
+    let agreeing = |others: &u64| others & mask == values & mask;
+    ascending(entered).filter(agreeing).all(|others| ask(sheet, entered, others).0 == verdict)
 }
 
 /// How many values of frames an ask may look at, roughly: the unfolded formula's size under all its settings.
@@ -69,7 +90,8 @@ pub fn cost(sheet: &Sheet) -> u64 {
         };
         costs.push(cost);
     }
-    costs.last().unwrap().saturating_mul(settings(sheet.open.count_ones()))
+    let gauges = (sheet.gauges & sheet.open).count_ones();
+    costs.last().unwrap().saturating_mul(settings(sheet.open.count_ones() + gauges))
 }
 
 /// The number of settings of so many variables, or the largest number.

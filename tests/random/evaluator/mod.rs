@@ -8,6 +8,7 @@ pub mod question;
 pub mod sheet;
 pub mod text;
 pub mod truth;
+pub mod words;
 
 use form::{Form, LINE, MOST_LINES};
 use sheet::Refusal;

@@ -1,18 +1,21 @@
 //! The truth table of a sheet's last frame over the variables that it reaches, and ASK and WHY read from it.
 
 use super::sheet::{Kind, Range, Sheet};
+use super::words::ascending;
 
 /// More would need tables of more than 8 KiB a frame.
 const MOST_VARIABLES: usize = 16;
 
-/// Bit i of a table, counted through its words, is the frame's value under setting i.
+/// Bit i of a table, counted through its words, is the frame's value under setting i: bit p of i is the p-th variable.
 type Table = Vec<u64>;
 
 pub struct Truth {
     /// The variables open in the last frame.
     pub open: u64,
-    /// The settings of the reached variables, all others 0: setting i as a word, ascending.
-    settings: Vec<u64>,
+    /// The variables that a 07 frame names, reached or not.
+    gauges: u64,
+    /// The reached ones, ascending.
+    variables: Vec<u8>,
     last: Table,
 }
 
@@ -26,21 +29,33 @@ impl Truth {
             let table = if reached { table(*kind, &tables, &variables) } else { Vec::new() };
             tables.push(table);
         }
-        Truth { open: sheet.open, settings: settings(&variables), last: tables.pop().unwrap() }
+        Truth { open: sheet.open, gauges: sheet.gauges, variables, last: tables.pop().unwrap() }
     }
 
-    /// ASK: the smallest word that agrees with the entries, makes the last frame true and is 0 off its open variables.
-    pub fn ask(&self, entered: u64, values: u64) -> Option<u64> {
-        let fits = |word: u64| word & !self.open == 0 && word & entered == values;
-        self.rows().find(|&(word, truth)| truth && fits(word)).map(|(word, _)| word)
+    /// ASK: the verdict and the word. It is yes if, whatever the gauges not entered are, there is a word; that of a yes
+    /// has them at 0, and that of a no is their smallest setting for which there is none.
+    pub fn ask(&self, entered: u64, values: u64) -> (bool, u64) {
+        let gauges = self.gauges & self.open & !entered;
+        let smallest = |setting: u64| self.smallest(entered | gauges, values | setting);
+        match ascending(gauges).find(|&setting| smallest(setting).is_none()) {
+            Some(failing) => (false, failing),
+            None => (true, smallest(0).expect("there is one for every setting")),
+        }
+    }
+
+    /// The smallest word that agrees with the values on the mask, makes the last frame true and is 0 off its open
+    /// variables.
+    fn smallest(&self, mask: u64, values: u64) -> Option<u64> {
+        ascending(self.open & !mask).map(|others| values | others).find(|&word| self.value(word))
     }
 
     /// WHY: ASK's verdict and the mask of what is left.
     pub fn why(&self, entered: u64, values: u64) -> (bool, u64) {
-        let (verdict, mut left, values) = match self.ask(entered, values) {
-            Some(word) => (true, self.open, word),
-            None => (false, entered, values),
-        };
+        if self.gauges != 0 {
+            return self.why_of_entries(entered, values);
+        }
+        let (verdict, word) = self.ask(entered, values);
+        let (mut left, values) = if verdict { (self.open, word) } else { (entered, values) };
         for variable in (0..64).rev() {
             let dropped = left & !(1 << variable);
             if dropped != left && self.always(dropped, values, verdict) {
@@ -52,12 +67,34 @@ impl Truth {
 
     /// All settings that agree with the values on the mask give the last frame that truth.
     fn always(&self, mask: u64, values: u64, truth: bool) -> bool {
-        self.rows().all(|(word, value)| word & mask != values & mask || value == truth)
+        ascending(self.open & !mask).all(|others| self.value(values & mask | others) == truth)
     }
 
-    fn rows(&self) -> impl Iterator<Item = (u64, bool)> + '_ {
-        let value = |index: usize| self.last[index / 64] >> (index % 64) & 1 == 1;
-        self.settings.iter().enumerate().map(move |(index, &word)| (word, value(index)))
+    /// WHY on a sheet with a 07 frame: of the entries alone, and a dropped one stays entered, with either value.
+    fn why_of_entries(&self, entered: u64, values: u64) -> (bool, u64) {
+        let verdict = self.ask(entered, values).0;
+        let mut left = entered;
+        for variable in (0..64).rev() {
+            let kept = left & !(1 << variable);
+            let same = |others: u64| self.ask(entered, values & kept | others).0 == verdict;
+            if kept != left && ascending(entered & !kept).all(same) {
+                left = kept;
+            }
+        }
+        (verdict, left)
+    }
+
+    /// Whether the last frame is true under some settings and false under others.
+    pub fn varies(&self) -> bool {
+        let is = |bits: u64| self.last.iter().all(|&word| word == bits);
+        !is(0) && !is(u64::MAX)
+    }
+
+    /// The last frame's value under a setting.
+    fn value(&self, setting: u64) -> bool {
+        let bits = self.variables.iter().enumerate();
+        let index = bits.fold(0, |index, (position, variable)| index | (setting >> variable & 1) << position);
+        self.last[index as usize / 64] >> (index % 64) & 1 == 1
     }
 }
 
@@ -92,15 +129,6 @@ fn reached_variables(frames: &[Kind], reached: &[bool]) -> Vec<u8> {
     variables.sort_unstable();
     variables.dedup();
     variables
-}
-
-/// Bit p of the index is the p-th variable; as the variables ascend, so do the words.
-fn settings(variables: &[u8]) -> Vec<u64> {
-    let word = |index: u64| {
-        let bits = variables.iter().enumerate();
-        bits.fold(0, |word, (position, &variable)| word | (index >> position & 1) << variable)
-    };
-    (0..1 << variables.len()).map(word).collect()
 }
 
 fn table(kind: Kind, tables: &[Table], variables: &[u8]) -> Table {

@@ -11,17 +11,17 @@ pub struct Chain {
     pub open: u64,
     /// The variables whose literal is not negated.
     pub positive: u64,
+    /// The variables that a 07 frame names, open or not.
+    pub gauges: u64,
 }
 
 /// A chain of all variables or of some. A FORALL may bind some of an OR, an EXISTS some of an AND: it says the same of
 /// those left.
 pub fn chain(rng: &mut Rng, form: Form) -> (Vec<u8>, Chain) {
-    let mut variables = all_variables(rng, form);
-    if rng.percent(50) {
-        variables.truncate(rng.between(1, 12));
-    }
-    let mut draft = Draft::new(form, form.most_frames());
-    let (frame, mut chain) = drafted(rng, &mut draft, &variables);
+    let variables = all_variables(rng, form);
+    let count = if rng.percent(50) { variables.len() } else { rng.between(1, 12) };
+    let (variables, unused) = variables.split_at(count);
+    let (mut draft, frame, mut chain) = drafted(rng, form, variables, unused);
     if let (true, Some((first, count))) = (rng.percent(50), draft.some_range(rng, chain.open)) {
         let quantified = draft.quantifier(chain.or, frame, first, count);
         chain.open = draft.open(quantified);
@@ -33,18 +33,18 @@ pub fn chain(rng: &mut Rng, form: Form) -> (Vec<u8>, Chain) {
 /// There is a value that makes its literal true, and not every value does: so each has the truth of what is inside.
 pub fn nest(rng: &mut Rng, form: Form) -> (Vec<u8>, Chain) {
     let variables = all_variables(rng, form);
-    let (open, bound) = variables.split_at(rng.between(1, 3));
-    let mut draft = Draft::new(form, form.most_frames());
-    let (mut frame, mut chain) = drafted(rng, &mut draft, open);
-    let levels = if rng.percent(50) { bound.len() } else { rng.between(1, bound.len()) };
-    for &variable in &bound[..levels] {
+    let (open, others) = variables.split_at(rng.between(1, 3));
+    let levels = if rng.percent(50) { others.len() } else { rng.between(1, others.len()) };
+    let (bound, unused) = others.split_at(levels);
+    let (mut draft, mut frame, mut chain) = drafted(rng, form, open, unused);
+    for &variable in bound {
         let literal = draft.literal(rng, variable);
         let forall = rng.percent(50);
         let gate = if forall { draft.or(frame, literal) } else { draft.and(frame, literal) };
         frame = draft.quantifier(forall, gate, variable, 1);
         if rng.percent(20) {
             frame = draft.not(frame);
-            chain = Chain { or: !chain.or, open: chain.open, positive: !chain.positive & chain.open };
+            chain = Chain { or: !chain.or, positive: !chain.positive & chain.open, ..chain };
         }
     }
     (draft.bytes, chain)
@@ -56,9 +56,18 @@ fn all_variables(rng: &mut Rng, form: Form) -> Vec<u8> {
     variables
 }
 
-/// The last frame of a chain of these variables, some of them negated.
-fn drafted(rng: &mut Rng, draft: &mut Draft, variables: &[u8]) -> (usize, Chain) {
-    let mut chain = Chain { or: rng.percent(50), open: 0, positive: 0 };
+/// A chain of these variables, some of them negated, and its last frame. One in two has gauges among them, or an unused
+/// variable as one, named by a frame that nothing reaches.
+fn drafted(rng: &mut Rng, form: Form, variables: &[u8], unused: &[u8]) -> (Draft, usize, Chain) {
+    let mut chain = Chain { or: rng.percent(50), open: 0, positive: 0, gauges: 0 };
+    let share = rng.pick(&[0, 0, 0, 0, 10, 50, 90, 100]);
+    chain.gauges = variables.iter().filter(|_| rng.percent(share)).fold(0, |mask, variable| mask | 1 << variable);
+    let apart = if rng.percent(15) { unused.first().copied() } else { None };
+    chain.gauges |= apart.map_or(0, |variable| 1 << variable);
+    let mut draft = Draft::new(form, form.most_frames(), chain.gauges);
+    if let Some(variable) = apart {
+        draft.input(variable);
+    }
     let mut last = None;
     for &variable in variables {
         let input = draft.input(variable);
@@ -72,33 +81,57 @@ fn drafted(rng: &mut Rng, draft: &mut Draft, variables: &[u8]) -> (usize, Chain)
             Some(frame) => draft.and(frame, literal),
         });
     }
-    (last.expect("a variable"), chain)
+    (draft, last.expect("a variable"), chain)
 }
 
 impl Chain {
-    /// The open variables whose literal is true under a setting.
-    fn true_ones(&self, setting: u64) -> u64 {
-        !(setting ^ self.positive) & self.open
+    /// Those of the variables whose literal is true under a setting.
+    fn true_ones(&self, variables: u64, setting: u64) -> u64 {
+        !(setting ^ self.positive) & variables
     }
 
-    /// The smallest word that agrees with the entries and makes the chain true. An OR is true with all others 0, or else
-    /// with the lowest of them 1.
-    pub fn ask(&self, entered: u64, values: u64) -> Option<u64> {
-        let others = self.open & !entered;
-        if self.or {
-            [values, values | lowest(others)].into_iter().find(|&word| self.true_ones(word) != 0)
+    /// The open variables that are not entered: the gauges, and the others.
+    fn left(&self, entered: u64) -> (u64, u64) {
+        let left = self.open & !entered;
+        (left & self.gauges, left & !self.gauges)
+    }
+
+    /// ASK's verdict and word. One true literal is enough for an OR: an entry's, or one of the others. Else it fails with
+    /// every gauge set against it. For an AND all must be true, which a gauge can always spoil.
+    pub fn ask(&self, entered: u64, values: u64) -> (bool, u64) {
+        let (gauges, others) = self.left(entered);
+        let settled = self.true_ones(entered, values);
+        if self.or && settled == 0 && others == 0 {
+            (false, gauges & !self.positive)
+        } else if self.or {
+            let with_zeros = self.true_ones(self.open, values) != 0;
+            (true, values | if with_zeros { 0 } else { lowest(others) })
+        } else if settled != entered || gauges & self.positive != 0 {
+            (false, 0)
+        } else if gauges != 0 {
+            (false, lowest(gauges))
         } else {
-            Some(values | others & self.positive).filter(|&word| self.true_ones(word) == self.open)
+            (true, values | others & self.positive)
         }
     }
 
     /// One literal is reason enough for a true OR or a false AND, and the lowest is dropped last; else all are needed.
+    /// Where there are gauges only entries are, and none if those not entered settle it.
     pub fn why(&self, entered: u64, values: u64) -> (bool, u64) {
-        match self.ask(entered, values) {
-            Some(word) if self.or => (true, lowest(self.true_ones(word))),
-            None if !self.or => (false, lowest(entered & !self.true_ones(values))),
-            asked => (asked.is_some(), self.open),
-        }
+        let (verdict, word) = self.ask(entered, values);
+        let (gauges, others) = self.left(entered);
+        let (start, setting) = if verdict && self.gauges == 0 { (self.open, word) } else { (entered, values) };
+        let settling = if self.or { others } else { gauges };
+        let left = if verdict != self.or {
+            start
+        } else if self.gauges != 0 && settling != 0 {
+            0
+        } else if self.or {
+            lowest(self.true_ones(start, setting))
+        } else {
+            lowest(start & !self.true_ones(start, setting))
+        };
+        (verdict, left)
     }
 }
 

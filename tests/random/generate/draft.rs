@@ -1,5 +1,6 @@
 //! A sheet while it is written. A frame is usable as long as no variable that the sheet binds is open in it; only such
-//! frames may be reached from the last one.
+//! frames may be reached from the last one. Which variables are gauges is fixed before: an input of one is a 07 frame, and
+//! no quantifier may bind it.
 
 use crate::evaluator::form::Form;
 use crate::evaluator::sheet::Range;
@@ -10,13 +11,14 @@ pub struct Draft {
     pub bytes: Vec<u8>,
     open: Vec<u64>,
     bound: u64,
+    gauges: u64,
     frames: usize,
 }
 
 impl Draft {
-    /// A draft of at most so many frames.
-    pub fn new(form: Form, frames: usize) -> Draft {
-        Draft { form, bytes: Vec::new(), open: Vec::new(), bound: 0, frames }
+    /// A draft of at most so many frames, with these gauges.
+    pub fn new(form: Form, frames: usize, gauges: u64) -> Draft {
+        Draft { form, bytes: Vec::new(), open: Vec::new(), bound: 0, gauges, frames }
     }
 
     pub fn room(&self) -> usize {
@@ -31,6 +33,14 @@ impl Draft {
         self.bound >> variable & 1 == 0
     }
 
+    pub fn gauge(&self, variable: u8) -> bool {
+        self.gauges >> variable & 1 == 1
+    }
+
+    pub fn bindable(&self, variable: u8) -> bool {
+        self.unbound(variable) && !self.gauge(variable)
+    }
+
     fn push(&mut self, fields: [usize; 4], open: u64) -> usize {
         self.bytes.extend(self.form.bytes(fields.map(|field| field as u16)));
         self.open.push(open);
@@ -42,7 +52,8 @@ impl Draft {
     }
 
     pub fn input(&mut self, variable: u8) -> usize {
-        self.push([0x01, variable.into(), 0, 0], 1 << variable)
+        let kind = if self.gauge(variable) { 0x07 } else { 0x01 };
+        self.push([kind, variable.into(), 0, 0], 1 << variable)
     }
 
     pub fn not(&mut self, frame: usize) -> usize {
@@ -71,6 +82,12 @@ impl Draft {
         let (not_left, not_right) = (self.not(left), self.not(right));
         let (first, second) = (self.and(left, not_right), self.and(not_left, right));
         self.or(first, second)
+    }
+
+    /// The one frame with its condition, or the other with its own; three frames.
+    pub fn chosen(&mut self, condition: usize, one: usize, otherwise: usize, other: usize) -> usize {
+        let (one, other) = (self.and(condition, one), self.and(otherwise, other));
+        self.or(one, other)
     }
 
     /// INPUT or its NOT; at most two frames.
@@ -107,20 +124,20 @@ impl Draft {
         rng.below(self.open.len())
     }
 
-    /// A range of unbound variables around one of the wanted ones, as first and count; large ones are rarer.
+    /// A range of variables that may be bound, around one of the wanted ones, as first and count; large ones are rarer.
     pub fn some_range(&self, rng: &mut Rng, wanted: u64) -> Option<(u8, u8)> {
         let candidates: Vec<u8> =
-            (0..self.form.variables()).filter(|&v| wanted >> v & 1 == 1 && self.unbound(v)).collect();
+            (0..self.form.variables()).filter(|&v| wanted >> v & 1 == 1 && self.bindable(v)).collect();
         if candidates.is_empty() {
             return None;
         }
         let start = rng.pick(&candidates);
         let (mut first, mut end) = (start, start + 1);
         let go_on = rng.pick(&[0, 20, 50, 90, 100]);
-        while first > 0 && self.unbound(first - 1) && rng.percent(go_on) {
+        while first > 0 && self.bindable(first - 1) && rng.percent(go_on) {
             first -= 1;
         }
-        while end < self.form.variables() && self.unbound(end) && rng.percent(go_on) {
+        while end < self.form.variables() && self.bindable(end) && rng.percent(go_on) {
             end += 1;
         }
         Some((first, end - first))

@@ -18,22 +18,71 @@ pub const LARGE: Size = Size { frames: 200, variables: 12 };
 pub const LARGER: Size = Size { frames: 700, variables: 12 };
 pub const LARGEST: Size = Size { frames: 3000, variables: 12 };
 
+/// A sheet without gauges.
 pub fn sheet(rng: &mut Rng, form: Form, size: Size) -> Vec<u8> {
     let frames = upper(rng, size.frames);
     if frames == 1 {
-        return single(rng, form);
+        return single(rng, form, 0);
     }
     let count = upper(rng, size.variables);
     let variables = variables(rng, form, count);
-    let mut draft = Draft::new(form, frames);
-    match rng.below(10) {
-        0..=4 => mixed(rng, &mut draft, &variables),
-        5..=6 => nested(rng, &mut draft, &variables),
-        7..=8 => clauses(rng, &mut draft, &variables),
-        _ => doubled(rng, &mut draft, &variables),
+    let mut draft = Draft::new(form, frames, 0);
+    shaped(rng, &mut draft, &variables);
+    finish(rng, &mut draft, &variables);
+    draft.bytes
+}
+
+/// A sheet with gauges among its variables, or with one apart from them, or both. The one apart is named by a frame that
+/// is seldom reached: the first, or the last but one.
+pub fn with_gauges(rng: &mut Rng, form: Form, size: Size) -> Vec<u8> {
+    let frames = upper(rng, size.frames);
+    if frames == 1 {
+        return single(rng, form, u64::MAX);
+    }
+    let count = upper(rng, size.variables);
+    let variables = variables(rng, form, count);
+    let unused: Vec<u8> = (0..form.variables()).filter(|variable| !variables.contains(variable)).collect();
+    let apart = if frames > 2 && rng.percent(25) { Some(rng.pick(&unused)) } else { None };
+    let mut gauges = apart.map_or(0, |variable| 1 << variable);
+    if apart.is_none() || rng.percent(60) {
+        gauges |= some_of(rng, &variables);
+    }
+    let mut draft = Draft::new(form, frames - usize::from(apart.is_some()), gauges);
+    let first = rng.percent(50);
+    if let (Some(variable), true) = (apart, first) {
+        draft.input(variable);
+    }
+    if rng.percent(40) {
+        by_gauges(rng, &mut draft, &variables);
+    } else {
+        shaped(rng, &mut draft, &variables);
+    }
+    if let (Some(variable), false) = (apart, first) {
+        draft.input(variable);
     }
     finish(rng, &mut draft, &variables);
     draft.bytes
+}
+
+/// The mask of one of the variables, of a few, or of all.
+pub fn some_of(rng: &mut Rng, variables: &[u8]) -> u64 {
+    let count = match rng.below(10) {
+        0..=4 => 1,
+        5..=8 => rng.between(1, variables.len()),
+        _ => variables.len(),
+    };
+    let mut chosen = variables.to_vec();
+    rng.shuffle(&mut chosen);
+    chosen[..count].iter().fold(0, |mask, variable| mask | 1 << variable)
+}
+
+fn shaped(rng: &mut Rng, draft: &mut Draft, variables: &[u8]) {
+    match rng.below(10) {
+        0..=4 => mixed(rng, draft, variables),
+        5..=6 => nested(rng, draft, variables),
+        7..=8 => clauses(rng, draft, variables),
+        _ => doubled(rng, draft, variables),
+    }
 }
 
 /// 1 to the most, the upper numbers more often.
@@ -43,11 +92,12 @@ fn upper(rng: &mut Rng, most: usize) -> usize {
 
 /// A sheet with two quantified frames that say whether the number of set variables is odd, and whether it is even. Both
 /// at once never holds, but a search finds that out by solving them under nearly every setting, which should make more
-/// records than the tables take. One setting makes the sheet true all the same.
+/// records than the tables take. One setting makes the sheet true all the same. Some or none of the variables are gauges.
 pub fn table_filling(rng: &mut Rng, form: Form) -> Vec<u8> {
     let variables = variables(rng, form, 12);
     let (open, bound) = variables.split_at(10);
-    let mut draft = Draft::new(form, 200);
+    let gauges = if rng.percent(50) { some_of(rng, &open[..3]) } else { 0 };
+    let mut draft = Draft::new(form, 200, gauges);
     let inputs: Vec<usize> = open.iter().map(|&variable| draft.input(variable)).collect();
     let parity = inputs[1..].iter().fold(inputs[0], |parity, &input| draft.differ(parity, input));
     let first = draft.input(bound[0]);
@@ -67,8 +117,8 @@ pub fn table_filling(rng: &mut Rng, form: Form) -> Vec<u8> {
     draft.bytes
 }
 
-fn single(rng: &mut Rng, form: Form) -> Vec<u8> {
-    let mut draft = Draft::new(form, 1);
+fn single(rng: &mut Rng, form: Form, gauges: u64) -> Vec<u8> {
+    let mut draft = Draft::new(form, 1, gauges);
     if rng.percent(30) {
         draft.never();
     } else {
@@ -158,7 +208,8 @@ fn quantified(rng: &mut Rng, draft: &mut Draft, frame: usize) -> usize {
 /// A quantifier that binds a variable outside the sheet's INPUT frames, over any frame.
 fn idle(rng: &mut Rng, draft: &mut Draft, variables: &[u8]) -> usize {
     let frame = draft.some_frame(rng);
-    let unused: Vec<u8> = (0..draft.form.variables()).filter(|v| !variables.contains(v) && draft.unbound(*v)).collect();
+    let unused: Vec<u8> =
+        (0..draft.form.variables()).filter(|v| !variables.contains(v) && draft.bindable(*v)).collect();
     if unused.is_empty() {
         return draft.not(frame);
     }
@@ -174,7 +225,7 @@ fn nested(rng: &mut Rng, draft: &mut Draft, variables: &[u8]) {
         if draft.room() < 10 {
             break;
         }
-        if draft.unbound(variable) {
+        if draft.bindable(variable) {
             let (first, count) = draft.some_range(rng, 1 << variable).unwrap_or((variable, 1));
             frame = draft.quantifier(forall, frame, first, count);
             forall = forall != rng.percent(80);
@@ -240,6 +291,40 @@ fn clauses(rng: &mut Rng, draft: &mut Draft, variables: &[u8]) {
         if draft.room() > 1 {
             frame = quantified(rng, draft, frame);
         }
+    }
+}
+
+/// A frame of the other variables for each setting of up to three gauges, chosen by these: ASK is yes if each frame can be
+/// made true. Without room for that, or without gauges or others, frames of all kinds.
+fn by_gauges(rng: &mut Rng, draft: &mut Draft, variables: &[u8]) {
+    let (gauges, others): (Vec<u8>, Vec<u8>) = variables.iter().partition(|&&variable| draft.gauge(variable));
+    let chosen = |levels: usize| 2 * levels + 3 * ((1 << levels) - 1) + 1;
+    let literals_room = draft.room().saturating_sub(2 * others.len());
+    let levels = (1..=gauges.len().min(3)).rev().find(|&levels| chosen(levels) < literals_room);
+    let (Some(levels), false) = (levels, others.is_empty()) else {
+        mixed(rng, draft, variables);
+        return;
+    };
+    let mut literals = Vec::new();
+    for &variable in &others {
+        let input = draft.input(variable);
+        literals.extend([input, draft.not(input)]);
+    }
+    let mut frames = Vec::new();
+    for _ in 0..1 << levels {
+        let mut frame = rng.pick(&literals);
+        for _ in 0..rng.below(4) {
+            if draft.room() > chosen(levels) {
+                let literal = rng.pick(&literals);
+                frame = if rng.percent(60) { draft.and(frame, literal) } else { draft.or(frame, literal) };
+            }
+        }
+        frames.push(frame);
+    }
+    for &gauge in &gauges[..levels] {
+        let set = draft.input(gauge);
+        let clear = draft.not(set);
+        frames = frames.chunks_exact(2).map(|pair| draft.chosen(set, pair[0], clear, pair[1])).collect();
     }
 }
 

@@ -1,10 +1,10 @@
 //! Calls of the archive's entries.
 
-use super::{accepted, call, sheet_and_script};
+use super::{accepted, call, drawn_and_script, sheet_and_script, some_sheets};
 use crate::compare;
 use crate::evaluator::form::{self, Form};
 use crate::evaluator::{literal, truth::Truth, Call};
-use crate::generate::damage::{damaged, damaged_frame, faulty, misruled};
+use crate::generate::damage::{clashing, damaged, damaged_frame, faulty, misruled};
 use crate::generate::scripts;
 use crate::generate::sheets::{self, Size, LARGE, LARGER, LARGEST, MIDDLE, SMALL};
 use crate::run::{Options, Run};
@@ -42,7 +42,7 @@ pub fn sizes(run: &mut Run) {
         for faulty in [false, true] {
             let mut sheet = form.bytes([0x01, 3, 0, 0]).repeat(bytes.div_ceil(form.frame()))[..bytes].to_vec();
             if let (true, Some(kind)) = (faulty, sheet.first_mut()) {
-                *kind = 0x07;
+                *kind = 0x08;
             }
             let call = Call { form, sheet: &sheet, script: &lines[..script_len] };
             let needed = call.needed();
@@ -70,13 +70,20 @@ pub fn edge_runs(_: &Options, form: Form) -> u64 {
 }
 
 /// After an INPUT of the last variable, a frame of each kind and around, with one field from this run and the others of
-/// all edge values.
+/// all edge values. Then the kinds that use variables after a gauge instead.
 pub fn edge_frames(run: &mut Run) {
+    let kinds: Vec<u16> = (0..=8).chain([0x10, 0xFF]).collect();
+    second_frames(run, 0x01, &kinds);
+    second_frames(run, 0x07, &[0x01, 0x05, 0x06, 0x07]);
+}
+
+/// Frames of these kinds after one of the first kind.
+fn second_frames(run: &mut Run, first: u16, kinds: &[u16]) {
     let form = run.form;
     let edges = edges(form);
-    let input = form.bytes([0x01, u16::from(form.variables()) - 1, 0, 0]);
+    let input = form.bytes([first, u16::from(form.variables()) - 1, 0, 0]);
     let a = edges[run.number as usize];
-    for k in (0..=8).chain([0x10, 0xFF]) {
+    for &k in kinds {
         for &b in edges {
             for &c in edges {
                 let sheet = [input.clone(), form.bytes([k, a, b, c])].concat();
@@ -93,17 +100,63 @@ pub fn late_runs(_: &Options, _: Form) -> u64 {
     LATE.len() as u64
 }
 
-/// After 300 INPUT frames, of which no two whose numbers have the same lower byte have the same variable: frames of each
-/// kind and around, with one field from this run.
+/// After 300 INPUT frames, of which no two whose numbers have the same lower byte have the same variable, and some of
+/// whose variables are gauges: frames of each kind and around, with one field from this run.
 pub fn late_frames(run: &mut Run) {
     let form = run.form;
-    let inputs: Vec<u8> = (0..300).flat_map(|number| form.bytes([0x01, number % 61, 0, 0])).collect();
+    let input = |variable: u16| form.bytes([if variable % 4 == 3 { 0x07 } else { 0x01 }, variable, 0, 0]);
+    let inputs: Vec<u8> = (0..300).flat_map(|number| input(number % 61)).collect();
     let a = LATE[run.number as usize];
-    for k in 0..=7 {
+    for k in 0..=8 {
         for &b in LATE {
             for c in [0, 1, 256] {
                 let sheet = [inputs.clone(), form.bytes([k, a, b, c])].concat();
                 call(run, &sheet, &[ASK, WHY].concat());
+            }
+        }
+    }
+}
+
+/// Frames that use one of the last two variables, or both, and ones that break a rule. They are given the last variable
+/// and their own number.
+const USES: &[fn(u16, u16) -> [u16; 4]] = &[
+    |last, _| [0x01, last, 0, 0],
+    |last, _| [0x01, last - 1, 0, 0],
+    |last, _| [0x07, last, 0, 0],
+    |last, _| [0x07, last - 1, 0, 0],
+    |last, own| [0x05, own - 1, last, 1],
+    |last, own| [0x06, own - 1, last - 1, 1],
+    |last, own| [0x06, own - 1, last - 1, 2],
+    |last, own| [0x05, own - 1, last - 1, 3],
+    |last, own| [0x05, own, last, 1],
+    |last, _| [0x07, last + 1, 0, 0],
+    |last, _| [0x07, last, 1, 0],
+    |last, _| [0x07, last - 1, 0, 1],
+    |last, _| [0x08, last, 0, 0],
+    |_, own| [0x04, own - 1, own - 2, 0],
+    |_, own| [0x02, own - 1, 0, 0],
+];
+
+pub fn use_runs(_: &Options, _: Form) -> u64 {
+    USES.len() as u64
+}
+
+/// Every mix of three such frames, the first from this run, behind as few NEVERs as there can be; for wide sheets also
+/// behind 300.
+pub fn uses(run: &mut Run) {
+    let form = run.form;
+    let last = form.variables() - 1;
+    let enter = |variable, value| [0x10, variable, value, 0];
+    let script = [ASK, WHY, enter(last, 1), ASK, WHY, enter(last - 1, 0), ASK, WHY].concat();
+    let first = USES[run.number as usize];
+    let befores: &[u16] = if form == Form::Wide { &[2, 300] } else { &[2] };
+    for &before in befores {
+        for second in USES {
+            for third in USES {
+                let frames = (before..).zip([first, *second, *third]).map(|(own, frame)| frame(last.into(), own));
+                let sheet = [[0; 4]].repeat(before.into()).into_iter().chain(frames);
+                let sheet: Vec<u8> = sheet.flat_map(|frame| form.bytes(frame)).collect();
+                call(run, &sheet, &script);
             }
         }
     }
@@ -149,7 +202,7 @@ pub fn random_runs(options: &Options, form: Form) -> u64 {
     }
 }
 
-/// Sheets and scripts of all shapes, one in eight damaged. Most are small: the large ones take the time.
+/// Sheets and scripts of all shapes, one in six damaged. Most are small: the large ones take the time.
 pub fn random(run: &mut Run) {
     let form = run.form;
     let (size, lines) = match (run.rng.below(100), form) {
@@ -164,8 +217,16 @@ pub fn random(run: &mut Run) {
         0 => sheet = damaged(&mut run.rng, &sheet),
         1 => script = damaged(&mut run.rng, &script),
         2 => sheet = misruled(&mut run.rng, form, &sheet),
+        3 => sheet = clashing(&mut run.rng, form, &sheet),
         _ => {}
     }
+    call(run, &sheet, &script);
+}
+
+/// Sheets with gauges, none of them damaged, and scripts with many questions.
+pub fn gauges(run: &mut Run) {
+    let size = if run.number.is_multiple_of(3) { MIDDLE } else { SMALL };
+    let (sheet, script) = drawn_and_script(run, sheets::with_gauges, size, 40, 60);
     call(run, &sheet, &script);
 }
 
@@ -196,7 +257,7 @@ pub fn desks(run: &mut Run) {
     compare::but_for_desks(run, calls, &outcomes);
 }
 
-/// A narrow sheet, one in eight faulty, through its entry, and widened through the other one.
+/// A narrow sheet, one in five faulty, through its entry, and widened through the other one.
 pub fn widened(run: &mut Run) {
     run.form = Form::Narrow;
     let size = if run.number.is_multiple_of(5) { MIDDLE } else { SMALL };
@@ -204,6 +265,7 @@ pub fn widened(run: &mut Run) {
     match run.rng.below(16) {
         0 => sheet = damaged_frame(&mut run.rng, &sheet),
         1 => sheet = misruled(&mut run.rng, Form::Narrow, &sheet),
+        2 => sheet = clashing(&mut run.rng, Form::Narrow, &sheet),
         _ => {}
     }
     let narrow = call(run, &sheet, &script);
@@ -249,8 +311,9 @@ pub fn answer_buffers(run: &mut Run) {
 /// The evaluator's own check: its tables against the rules read word for word, where that ends soon.
 pub fn literally(run: &mut Run) {
     let (form, rng) = (run.form, &mut run.rng);
+    let drawn = some_sheets(rng);
     let (sheet, truth) = loop {
-        let sheet = accepted(form, &sheets::sheet(rng, form, Size { frames: 24, variables: 5 }));
+        let sheet = accepted(form, &drawn(rng, form, Size { frames: 24, variables: 5 }));
         if literal::cost(&sheet) < 3000 {
             let truth = Truth::of(&sheet);
             break (sheet, truth);

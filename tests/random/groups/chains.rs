@@ -52,8 +52,8 @@ fn line(rng: &mut Rng, chain: &Chain, entries: &mut Vec<Entry>) -> ([u8; 4], u8,
             told(0x12, place as u8, entries[place])
         }
         15..=17 => {
-            let (verdict, word) = chain.ask(entered, values).map_or((0, 0), |word| (1, word));
-            ([0x13, 0, 0, 0], verdict, word)
+            let (verdict, word) = chain.ask(entered, values);
+            ([0x13, 0, 0, 0], verdict.into(), word)
         }
         _ => {
             let (verdict, mask) = chain.why(entered, values);

@@ -11,6 +11,7 @@ use crate::evaluator::sheet::{self, Sheet};
 use crate::evaluator::{truth::Truth, Call};
 use crate::generate::scripts;
 use crate::generate::sheets::{self, Size};
+use crate::rng::Rng;
 use crate::run::{Options, Run};
 use crate::{compare, panel};
 
@@ -32,8 +33,10 @@ pub const GROUPS: &[Group] = &[
     Group { name: "sizes", forms: BOTH, runs: calls::size_runs, run: calls::sizes },
     Group { name: "every second frame of edge values", forms: BOTH, runs: calls::edge_runs, run: calls::edge_frames },
     Group { name: "every 301st frame of edge values", forms: WIDE, runs: calls::late_runs, run: calls::late_frames },
+    Group { name: "every three frames that use variables", forms: BOTH, runs: calls::use_runs, run: calls::uses },
     Group { name: "every line of edge values", forms: BOTH, runs: calls::line_runs, run: calls::edge_lines },
     Group { name: "random runs", forms: BOTH, runs: calls::random_runs, run: calls::random },
+    Group { name: "gauges", forms: BOTH, runs: |options, _| options.count / 4, run: calls::gauges },
     Group { name: "long scripts", forms: BOTH, runs: |options, _| options.count / 400, run: calls::long_scripts },
     Group { name: "full tables", forms: BOTH, runs: |options, _| options.count / 2000, run: calls::full_tables },
     Group { name: "chains of all variables", forms: BOTH, runs: |options, _| options.count / 40, run: chains::chain },
@@ -75,21 +78,39 @@ fn call(run: &mut Run, sheet: &[u8], script: &[u8]) -> Outcome {
 }
 
 /// A random accepted sheet of the run's form and a script for it. A sheet that is true or false under every setting is
-/// drawn again, a few times.
+/// drawn again, a few times, and so are most of those whose gauges make a first ASK a no.
 fn sheet_and_script(run: &mut Run, size: Size, lines: usize, questions: usize) -> (Vec<u8>, Vec<u8>) {
+    let drawn = some_sheets(&mut run.rng);
+    drawn_and_script(run, drawn, size, lines, questions)
+}
+
+/// How a sheet is drawn.
+type Drawn = fn(&mut Rng, Form, Size) -> Vec<u8>;
+
+/// The same of a sheet that is drawn so.
+fn drawn_and_script(run: &mut Run, drawn: Drawn, size: Size, lines: usize, questions: usize) -> (Vec<u8>, Vec<u8>) {
     let (form, rng) = (run.form, &mut run.rng);
     let mut tries = rng.between(1, 5);
     let (sheet, truth) = loop {
-        let sheet = sheets::sheet(rng, form, size);
+        let sheet = drawn(rng, form, size);
         let truth = Truth::of(&accepted(form, &sheet));
         tries -= 1;
-        if tries == 0 || truth.why(0, 0).1 != 0 {
+        if tries == 0 || truth.varies() && (truth.ask(0, 0).0 || rng.percent(30)) {
             break (sheet, truth);
         }
     };
     let lines = rng.between(0, lines);
     let script = scripts::script(rng, form, truth.open, lines, questions);
     (sheet, script)
+}
+
+/// One in three has gauges.
+fn some_sheets(rng: &mut Rng) -> Drawn {
+    if rng.below(3) == 0 {
+        sheets::with_gauges
+    } else {
+        sheets::sheet
+    }
 }
 
 fn accepted(form: Form, drafted: &[u8]) -> Sheet {

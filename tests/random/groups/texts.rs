@@ -5,7 +5,7 @@ use crate::compare;
 use crate::evaluator::form::Form;
 use crate::evaluator::text::{self, Reading};
 use crate::evaluator::Call;
-use crate::generate::damage::damaged_frame;
+use crate::generate::damage::{clashing, damaged_frame};
 use crate::generate::sheets::{MIDDLE, SMALL};
 use crate::generate::texts::{counted, damaged, in_some_style, sheet_lines, styled, text as plain, with_strange_line};
 use crate::run::{Options, Run};
@@ -18,7 +18,7 @@ pub fn text_runs(options: &Options, form: Form) -> u64 {
     }
 }
 
-/// Texts in every style: one in ten of a faulty sheet, half of them damaged or with a strange line.
+/// Texts in every style: one in five of a faulty sheet, half of them damaged or with a strange line.
 pub fn texts(run: &mut Run) {
     let text = some_text(run);
     run.tally.met.note_text(&text);
@@ -50,8 +50,10 @@ fn some_text(run: &mut Run) -> Vec<u8> {
     let size = if run.number.is_multiple_of(10) { MIDDLE } else { SMALL };
     let (mut sheet, script) = sheet_and_script(run, size, 20, 40);
     let fault = run.rng.below(10);
-    if fault == 0 {
-        sheet = damaged_frame(&mut run.rng, &sheet);
+    match fault {
+        0 => sheet = damaged_frame(&mut run.rng, &sheet),
+        1 => sheet = clashing(&mut run.rng, form, &sheet),
+        _ => {}
     }
     let text = in_some_style(&mut run.rng, &plain(Call { form, sheet: &sheet, script: &script }));
     compare::reading(run, &text, &Reading { form, parts: Ok((sheet, script)) });

@@ -1,61 +1,44 @@
--- `proxies::note` meets its contract: the record that is put is true, and agrees with the word. Assumes nothing.
+-- `proxies::note` meets its contract: behind the frames the tables are as they were. Assumes nothing.
 use native.Mathlib.Omega.{arith}
 use borrow.Author.Needs.{needs}
-use Rattle.proxies.specs.KeptLaws.{low-fits, noted-under, noted-over}
+use Rattle.records.specs.Both.{tables-same}
 use Rattle.proxies.proofs.note.Statement.{statement}
 use Rattle.proxies.proofs.note.Tie as tie
 
-low-requires : tie.Need-low-requires
-low-requires c κs = search needs
+frames-requires : tie.Need-frames-requires
+frames-requires c κs = search needs
 
-low-requires-2 : tie.Need-low-requires-2
-low-requires-2 c κs = search needs
+returns : tie.Need-returns
+returns c T E = (tables-same T, λ l. absurd (omega (arith, l, c .before .frames .ensures, c .if1 .taken)))
 
-cast-put : tie.Need-cast-put
-cast-put c = search needs
+form-requires : tie.Need-form-requires
+form-requires c κs = search needs
 
-put-requires : tie.Need-put-requires
-put-requires c κs =
+note-frame-requires : tie.Need-note-frame-requires
+note-frame-requires c κs =
     let pre° = c .before .before .before .before .before .before .before .before .pre in
-    let form° = c .before .before .before .before .before .before .before .before .args .form in
-    (pre° .1, low-fits form° _ (c .before .before .before .before .before .low .ensures), low-fits form° _ (c .before .before .before .low2 .ensures))
+    let e = c .before .before .form .ensures in
+    (omega (arith, c .before .before .before .if1 .left, c .before .before .before .before .frames .ensures, pre° .0 .room, pre° .0 .few), rw e (pre° .1), rw e (pre° .2), pre° .3, pre° .4)
 
 same-length : tie.Need-same-length
 same-length c = search needs
-
-returns : tie.Need-returns
-returns c =
-    let args° = c .before .before .before .before .before .before .before .before .before .before .before .args in
-    noted-under (args° .word) (args° .known .reason) (c .before .before .before .before .before .before .before .before .low .ensures) (c .before .before .before .before .before .before .low2 .ensures) (omega arith) (c .before .before .put .ensures)
-
-cast-put-2 : tie.Need-cast-put-2
-cast-put-2 c = search needs
-
-put-requires-2 : tie.Need-put-requires-2
-put-requires-2 c κs =
-    let pre° = c .before .before .before .before .before .before .before .before .pre in
-    let form° = c .before .before .before .before .before .before .before .before .args .form in
-    (pre° .2, low-fits form° _ (c .before .before .before .before .before .low .ensures), low-fits form° _ (c .before .before .before .low2 .ensures))
 
 same-length-2 : tie.Need-same-length-2
 same-length-2 c = search needs
 
 returns-2 : tie.Need-returns-2
-returns-2 c =
-    let args° = c .before .before .before .before .before .before .before .before .before .before .before .args in
-    noted-over (args° .word) (args° .known .reason) (c .before .before .before .before .before .before .before .before .low .ensures) (c .before .before .before .before .before .before .low2 .ensures) (omega (arith, c .before .before .before .before .before .before .before .before .before .before .before .pre)) (c .before .before .put2 .ensures)
+returns-2 c T E =
+    let n = c .before .before .before .before .note-frame .ensures _ (c .before .before .before .before .before .before .before .before .before .before .before .before .before .pre .0) (c .before .before .before .before .before .before .before .form .ensures) T (omega (arith, c .before .before .before .before .before .before .before .before .if1 .left, c .before .before .before .before .before .before .before .before .before .frames .ensures)) E in
+    (n .0, λ l. n .1)
 
 pub note-spec : {M : Type 1} → statement M
 note-spec =
     tie.close
     (tie.spec
-    low-requires
-    low-requires-2
-    cast-put
-    put-requires
-    same-length
+    frames-requires
     returns
-    cast-put-2
-    put-requires-2
+    form-requires
+    note-frame-requires
+    same-length
     same-length-2
     returns-2)

@@ -3,7 +3,7 @@ use borrow.Author.Needs.{needs}
 use Rattle.form.specs.Form.{formOf}
 use Rattle.sheet.specs.Fields.{sheetOf}
 use Rattle.net.specs.Sheet.{checked-net}
-use Rattle.run.specs.Progress.{run-room, run-checked, run-accepted, run-refused}
+use Rattle.run.specs.Progress.{run-room, run-checked, run-gauged, run-accepted, run-refused}
 use Rattle.run.proofs.run_form.Statement.{statement}
 use Rattle.run.proofs.run_form.Tie as tie
 
@@ -23,7 +23,11 @@ load-requires : tie.Need-load-requires
 load-requires c κs =
     let a = c .before .before .before .before .before .before .before .before .before .before .before .args in
     let k = rw (c .before .before .before .before .of .ensures) at (c .before .before .before .check .ensures) in
-    (run-checked (sheetOf (formOf (a .wide)) (a .sheet .now)) (a .script .now) (a .answers .now) k (c .before .if1 .left), c .before .before .before .before .before .before .before .before .before .before .before .pre)
+    let z = c .before .if1 .left in (
+      run-checked (sheetOf (formOf (a .wide)) (a .sheet .now)) (a .script .now) (a .answers .now) k z,
+      run-gauged (sheetOf (formOf (a .wide)) (a .sheet .now)) (a .script .now) (a .answers .now) k z,
+      c .before .before .before .before .before .before .before .before .before .before .before .pre,
+    )
 
 run-lines-requires : tie.Need-run-lines-requires
 run-lines-requires c κs =

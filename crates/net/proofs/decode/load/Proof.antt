@@ -12,7 +12,7 @@ use Rattle.net.proofs.decode.load.Statement.{statement}
 use Rattle.net.proofs.decode.load.Tie as tie
 
 load-frames-requires : tie.Need-load-frames-requires
-load-frames-requires c κs = let q = c .before .before .before .pre in (loading-none (q .0) (q .1), sym (lt-ltb 0 _ (q .0 .some)))
+load-frames-requires c κs = let q = c .before .before .before .pre in (loading-none (q .0) (q .2), sym (lt-ltb 0 _ (q .0 .some)))
 
 of-requires : tie.Need-of-requires
 of-requires c κs = search needs
@@ -27,14 +27,14 @@ nest-requires : tie.Need-nest-requires
 nest-requires c κs =
     let a = c .before .before .before .before .before .before .before .before .before .before .before .before .before .args in
     let n = frames-of (length (now (a .sheet))) (c .before .before .before .before .before .before .of .ensures) (c .before .before .before .before .frames .ensures) in
-    (sheetOf (formOf (a .wide)) (now (a .sheet)), loaded-net (c .before .before .before .before .before .before .before .before .before .before .before .before .before .pre .0) (c .before .before .before .before .before .before .before .before .before .load-frames .ensures) n (c .before .before .before .head .ensures))
+    (sheetOf (formOf (a .wide)) (now (a .sheet)), loaded-net (c .before .before .before .before .before .before .before .before .before .before .before .before .before .pre .0) (c .before .before .before .before .before .before .before .before .before .before .before .before .before .pre .1) (c .before .before .before .before .before .before .before .before .before .load-frames .ensures) n (c .before .before .before .head .ensures))
 
 link-requires : tie.Need-link-requires
 link-requires c κs =
     let a = c .before .before .before .before .before .before .before .before .before .before .before .before .before .before .before .before .before .args in
     let n = frames-of (length (now (a .sheet))) (c .before .before .before .before .before .before .before .before .before .before .of .ensures) (c .before .before .before .before .before .before .before .before .frames .ensures) in
     c .before .before .before .nest .ensures (sheetOf (formOf (a .wide)) (now (a .sheet)))
-    (loaded-net (c .before .before .before .before .before .before .before .before .before .before .before .before .before .before .before .before .before .pre .0) (c .before .before .before .before .before .before .before .before .before .before .before .before .before .load-frames .ensures) n (c .before .before .before .before .before .before .before .head .ensures)) .ground
+    (loaded-net (c .before .before .before .before .before .before .before .before .before .before .before .before .before .before .before .before .before .pre .0) (c .before .before .before .before .before .before .before .before .before .before .before .before .before .before .before .before .before .pre .1) (c .before .before .before .before .before .before .before .before .before .before .before .before .before .load-frames .ensures) n (c .before .before .before .before .before .before .before .head .ensures)) .ground
 
 same-length : tie.Need-same-length
 same-length c = search needs
@@ -43,7 +43,7 @@ returns : tie.Need-returns
 returns c =
     let a = c .before .before .before .before .before .before .before .before .before .before .before .before .before .before .before .before .before .before .before .before .args in
     let n = frames-of (length (now (a .sheet))) (c .before .before .before .before .before .before .before .before .before .before .before .before .before .of .ensures) (c .before .before .before .before .before .before .before .before .before .before .before .frames .ensures) in
-    linked-net (c .before .before .link .ensures) (c .before .before .before .before .before .before .nest .ensures _ (loaded-net (c .before .before .before .before .before .before .before .before .before .before .before .before .before .before .before .before .before .before .before .before .pre .0) (c .before .before .before .before .before .before .before .before .before .before .before .before .before .before .before .before .load-frames .ensures) n (c .before .before .before .before .before .before .before .before .before .before .head .ensures)))
+    linked-net (c .before .before .link .ensures) (c .before .before .before .before .before .before .nest .ensures _ (loaded-net (c .before .before .before .before .before .before .before .before .before .before .before .before .before .before .before .before .before .before .before .before .pre .0) (c .before .before .before .before .before .before .before .before .before .before .before .before .before .before .before .before .before .before .before .before .pre .1) (c .before .before .before .before .before .before .before .before .before .before .before .before .before .before .before .before .load-frames .ensures) n (c .before .before .before .before .before .before .before .before .before .before .head .ensures)))
 
 pub load-spec : {M : Type 1} → statement M
 load-spec =

@@ -21,7 +21,7 @@ returns : tie.Need-returns
 returns c = search needs
 
 returns-2 : tie.Need-returns-2
-returns-2 c = omega (arith, c .before .shared-slice-known .given (66 + 2 * c .before .before .args .k))
+returns-2 c = omega (arith, c .before .shared-slice-known .given (67 + 2 * c .before .before .args .k))
 
 pub next-user-spec : {M : Type 1} → statement M
 next-user-spec =

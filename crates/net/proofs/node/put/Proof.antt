@@ -26,7 +26,7 @@ mul-net-2 : tie.Need-mul-net-2
 mul-net-2 c = search needs
 
 slice-write-net-2 : tie.Need-slice-write-net-2
-slice-write-net-2 c = omega (arith, length-set (c .args .net .now) (66 + 2 * c .args .k) (c .args .word))
+slice-write-net-2 c = omega (arith, length-set (c .args .net .now) (67 + 2 * c .args .k) (c .args .word))
 
 same-length : tie.Need-same-length
 same-length c = search needs

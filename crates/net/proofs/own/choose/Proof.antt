@@ -1,11 +1,16 @@
 -- `net::own::choose` meets its contract. Assumes nothing.
 use Rattle.net.specs.OwnLaws.{put-chosen}
+use mathlib.Core.Path.{ap}
+use Prim.Native.Nat.{ℕ, _+_}
 use borrow.Author.Needs.{needs}
 use Rattle.net.proofs.own.choose.Statement.{statement}
 use Rattle.net.proofs.own.choose.Tie as tie
 
 frames-requires : tie.Need-frames-requires
 frames-requires c κs = search needs
+
+add-at : tie.Need-add-at
+add-at c = search needs
 
 sub-word : tie.Need-sub-word
 sub-word c = search needs
@@ -23,12 +28,17 @@ same-length : tie.Need-same-length
 same-length c = search needs
 
 returns : tie.Need-returns
-returns c =
-    let p = c .before .before .before .before .before .before .before .before .pre in
-    put-chosen (c .before .before .before .before .before .frames .ensures) (p .1) (p .2) (p .3)
-    (c .before .before .before .word .ensures _) (record { is = c .before .before .put .ensures })
+returns c = let p = (c .before .before .before .before .before .before .before .before .pre) in put-chosen (ap (λ (x : ℕ). x + (c .before .before .before .before .before .before .before .before .args) .i) ((c .before .before .before .before .before .frames) .ensures)) (p .3) (p .4) ((c .before .before .before .word) .ensures _) (record { is = (c .before .before .put) .ensures })
 
 pub choose-spec : {M : Type 1} → statement M
 choose-spec =
     tie.close
-    (tie.spec frames-requires sub-word sub-word-2 word-requires put-requires same-length returns)
+    (tie.spec
+    frames-requires
+    add-at
+    sub-word
+    sub-word-2
+    word-requires
+    put-requires
+    same-length
+    returns)

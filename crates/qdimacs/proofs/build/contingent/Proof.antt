@@ -1,8 +1,9 @@
 -- `qdimacs::build::contingent` meets its contract: clauses with opposites are always true, and the solver's answer tells the rest. Assumes nothing.
+use native.Mathlib.Omega.{arith}
 use borrow.Author.Needs.{needs}
 use mathlib.Core.Path.{refl, sym, _∙_}
 use Rattle.sheet.specs.Fields.{narrow}
-use Rattle.qdimacs.specs.MatrixAsked.{judged-true, matrix-checked, ready-none, judged-asked}
+use Rattle.qdimacs.specs.MatrixAsked.{judged-true, matrix-checked, matrix-ungauged, ready-none, judged-asked}
 use Rattle.qdimacs.proofs.build.contingent.Statement.{statement}
 use Rattle.qdimacs.proofs.build.contingent.Tie as tie
 
@@ -22,7 +23,9 @@ slice-aggregate-load : tie.Need-slice-aggregate-load
 slice-aggregate-load c = search needs
 
 load-requires : tie.Need-load-requires
-load-requires c κs = (matrix-checked (c .before .before .before .before .before .before .before .pre) (c .before .before .find-occurring .ensures .0), record { is = refl })
+load-requires c κs =
+    let m = c .before .before .before .before .before .before .before .pre in
+    (matrix-checked m (c .before .before .find-occurring .ensures .0), omega (arith, matrix-ungauged m), record { is = refl })
 
 slice-aggregate-ask : tie.Need-slice-aggregate-ask
 slice-aggregate-ask c = search needs

@@ -2,7 +2,7 @@
 -- Assumes nothing.
 use Prim.Native.Nat.{ℕ, _+_, _*_, _<_}
 use native.Mathlib.Omega.{arith}
-use mathlib.Core.Path.{_≡_, refl, sym, _∙_}
+use mathlib.Core.Path.{refl, sym, _∙_}
 use borrow.Author.Tests.{not-true}
 use borrow.Author.Needs.{needs}
 use borrow.Fn.Kinds.{In}
@@ -13,7 +13,7 @@ use Rattle.net.specs.Layout.{reads-low, flips-below, joins-left, joins-right, b
 use Rattle.judge.specs.JudgeLaws.{judged-at, judging-none, judging-then}
 use Rattle.judge.specs.CellLaws.{trail-none}
 use Rattle.proxies.specs.KeptLaws.{recorded-told}
-use Rattle.search.specs.SearchLaws.{checked-flip, checked-left, checked-right, lent-after, tables-fit, perNode, body-less}
+use Rattle.search.specs.SearchLaws.{checked-flip, checked-left, checked-right, lent-after, perNode, body-less}
 use Rattle.search.specs.SearchLaws.{told-met, told-missed, told-known, told-leaf, told-flip, told-left, told-right, told-both, told-shown}
 use Rattle.search.specs.SearchLaws.{known-found, known-lost, posed-cells, posed-checked, posed-half, posed-body}
 use Rattle.imply.specs.ForceLaws.{forced-less, forced-found, posed-forced, pushed-lost}
@@ -55,7 +55,6 @@ use Rattle.judge.proofs.cells.undo.Reads as undo-reads
 use Rattle.judge.proofs.forward.judge.Reads as judge-reads
 use Rattle.judge.proofs.forward.keep.Reads as keep-reads
 use Rattle.net.proofs.node.decided.Reads as decided-reads
-use Rattle.net.proofs.form.Reads as form-reads
 use Rattle.net.proofs.node_at.Reads as node-at-reads
 use Rattle.proxies.proofs.body_shows.Reads as body-shows-reads
 use Rattle.search.proofs.cycle.begin.Reads as begin-reads
@@ -259,8 +258,6 @@ push-claims t = (
 
 abbrev quantified-claims : ℕ → quantified-lts.Claims
 quantified-claims t = (
-  form-reads.Asked,
-  form-reads.Learnt,
   recorded-reads.Asked,
   recorded-reads.Learnt,
   choose-below t,
@@ -972,17 +969,11 @@ push-returns-3 t c =
 
 -- ---- quantified
 
-quantified-form-requires : (t : ℕ) → quantified-lts.Need-form-requires (quantified-claims t) (quantified-at t) quantified.Post
-quantified-form-requires t c κs = search needs
-
 quantified-recorded-requires : (t : ℕ) → quantified-lts.Need-recorded-requires (quantified-claims t) (quantified-at t) quantified.Post
 quantified-recorded-requires t c κs =
-    let pre° = c .before .before .before .before .before .before .before .before .pre in
-    let fits = tables-fit (c .before .before .form .ensures) (pre° .1 .1 .1 .tables) in (
-      omega (arith, pre° .1 .1 .0 .0, pre° .1 .1 .0 .1 .ground .room, pre° .1 .1 .0 .1 .ground .few),
-      fits .0,
-      fits .1,
-    )
+    let pre° = c .before .before .before .before .before .before .before .pre in
+    let tables° = pre° .1 .1 .1 .tables in
+    (pre° .1 .1 .0 .1 .ground, tables° .under .fits, tables° .over .fits)
 
 quantified-same-length : (t : ℕ) → quantified-lts.Need-same-length (quantified-claims t) (quantified-at t) quantified.Post
 quantified-same-length t c = refl
@@ -992,13 +983,13 @@ quantified-same-length-2 t c = refl
 
 quantified-returns : (t : ℕ) → quantified-lts.Need-returns (quantified-claims t) (quantified-at t) quantified.Post
 quantified-returns t c =
-    let pre° = c .before .before .before .before .before .before .before .before .before .before .before .pre in
-    let both = recorded-told (pre° .1 .1 .0 .1 .ground) (c .before .before .before .before .before .form .ensures) (pre° .1 .1 .1 .tables) (pre° .1 .1 .0 .1 .covers) (omega (arith, c .if1 .taken)) (c .before .before .recorded .ensures) in
-    ((both .0, judging-none (pre° .1 .1 .0 .1 .judged)), (tables-same (pre° .1 .1 .1 .tables), both .1))
+    let pre° = c .before .before .before .before .before .before .before .before .before .before .pre in
+    let both = recorded-told (pre° .1 .1 .0 .1 .ground) (pre° .1 .1 .1 .tables) (pre° .1 .1 .0 .1 .covers) (omega (arith, c .if1 .taken)) (c .before .before .recorded .ensures) in
+    ((both .0, judging-none (pre° .1 .1 .0 .1 .judged)), (tables-same (pre° .1 .1 .1 .tables), λ l. both .1))
 
 quantified-choose-requires : (t : ℕ) → quantified-lts.Need-choose-requires (quantified-claims t) (quantified-at t) quantified.Post
 quantified-choose-requires t c κs =
-    let pre° = c .before .before .before .before .before .before .before .before .before .before .before .before .before .before .before .pre in
+    let pre° = c .before .before .before .before .before .before .before .before .before .before .before .before .before .before .pre in
     (omega (arith, pre° .0), (pre° .1 .0, ((pre° .1 .1 .0 .1), pre° .1 .1 .1)))
 
 quantified-body-shows-requires : (t : ℕ) → quantified-lts.Need-body-shows-requires (quantified-claims t) (quantified-at t) quantified.Post
@@ -1006,16 +997,9 @@ quantified-body-shows-requires t c κs = search needs
 
 quantified-note-requires : (t : ℕ) → quantified-lts.Need-note-requires (quantified-claims t) (quantified-at t) quantified.Post
 quantified-note-requires t c κs =
-    let pre° = c .before .before .before .before .before .before .before .before .before .before .before .before .before .before .before .before .before .before .before .before .before .before .before .before .before .before .before .before .pre in
-    let choose° = c .before .before .before .before .before .before .before .before .before .before .before .before .choose in
+    let tables° = c .before .before .before .before .before .before .before .before .before .before .before .before .choose .ensures .1 .tables in
     let body-shows° = c .before .before .before .body-shows in
-    let fits = tables-fit (c .before .before .before .before .before .before .before .before .before .before .before .before .before .before .before .before .before .before .before .before .before .before .form .ensures) (choose° .ensures .1 .tables) in (
-      omega (arith, pre° .1 .1 .0 .0, pre° .1 .1 .0 .1 .ground .room, pre° .1 .1 .0 .1 .ground .few),
-      fits .0,
-      fits .1,
-      body-shows° .ensures .some,
-      body-shows° .ensures .low,
-    )
+    (c .before .before .before .before .before .before .before .before .before .before .before .before .before .before .before .before .before .before .before .before .before .before .before .before .before .before .before .pre .1 .1 .0 .1 .ground, tables° .under .fits, tables° .over .fits, body-shows° .ensures .some, body-shows° .ensures .low)
 
 quantified-same-length-3 : (t : ℕ) → quantified-lts.Need-same-length-3 (quantified-claims t) (quantified-at t) quantified.Post
 quantified-same-length-3 t c = c .before .before .before .before .before .before .before .before .before .before .before .before .before .before .before .before .cells .given
@@ -1031,10 +1015,10 @@ quantified-same-length-6 t c = c .before .over2 .given ∙ c .before .before .be
 
 quantified-returns-2 : (t : ℕ) → quantified-lts.Need-returns-2 (quantified-claims t) (quantified-at t) quantified.Post
 quantified-returns-2 t c =
-    let pre° = c .before .before .before .before .before .before .before .before .before .before .before .before .before .before .before .before .before .before .before .before .before .before .before .before .before .before .before .before .before .before .before .before .before .pre in
+    let pre° = c .before .before .before .before .before .before .before .before .before .before .before .before .before .before .before .before .before .before .before .before .before .before .before .before .before .before .before .before .before .before .before .before .pre in
     let choose° = c .before .before .before .before .before .before .before .before .before .before .before .before .before .before .before .before .before .choose in
     let told = told-shown (pre° .1 .1 .0 .1) (pre° .1 .0 .0) (pre° .1 .0 .1) _ _ (choose° .ensures .0 .0) (c .before .before .before .before .before .before .before .before .body-shows .ensures) in
-    let noted = c .before .before .before .before .note .ensures _ (pre° .1 .1 .0 .1 .ground) (c .before .before .before .before .before .before .before .before .before .before .before .before .before .before .before .before .before .before .before .before .before .before .before .before .before .before .before .form .ensures) (choose° .ensures .1 .tables) (pre° .1 .1 .0 .0) (told .forced .explains) in (
+    let noted = c .before .before .before .before .note .ensures (choose° .ensures .1 .tables) (told .forced .explains) in (
       (told, rw (choose° .ensures .0 .1) (judging-none (pre° .1 .1 .0 .1 .judged))),
       (tables-then (choose° .ensures .1) (noted .0), noted .1),
     )
@@ -1304,7 +1288,6 @@ pub +branch+candidate+check+choose+evaluate+extend+gate+push+quantified+settle-s
     (push-returns-3 t))
     (λ t. quantified-lts.spec (quantified-claims t) (quantified-at t)
     quantified.Post
-    (quantified-form-requires t)
     (quantified-recorded-requires t)
     (quantified-same-length t)
     (quantified-same-length-2 t)

@@ -34,6 +34,12 @@ enum-known-kind-3 c = search needs
 bad-range-requires-2 : tie.Need-bad-range-requires-2
 bad-range-requires-2 c κs = search needs
 
+enum-known-kind-4 : tie.Need-enum-known-kind-4
+enum-known-kind-4 c = search needs
+
+bad-input-requires-2 : tie.Need-bad-input-requires-2
+bad-input-requires-2 c κs = search needs
+
 returns : tie.Need-returns
 unfolding badVariables
 returns c = simp (c .enum-told .given .1)
@@ -62,6 +68,10 @@ returns-7 : tie.Need-returns-7
 unfolding badVariables
 returns-7 c = simp (c .before .before .kind3 .given .1, c .bad-range2 .ensures)
 
+returns-8 : tie.Need-returns-8
+unfolding badVariables
+returns-8 c = simp (c .before .before .kind4 .given .1, c .bad-input2 .ensures)
+
 pub bad-variables-spec : {M : Type 1} → statement M
 bad-variables-spec =
     tie.close
@@ -76,10 +86,13 @@ bad-variables-spec =
     bad-range-requires
     enum-known-kind-3
     bad-range-requires-2
+    enum-known-kind-4
+    bad-input-requires-2
     returns
     returns-2
     returns-3
     returns-4
     returns-5
     returns-6
-    returns-7)
+    returns-7
+    returns-8)

@@ -40,6 +40,9 @@ unfolding badVariables boundMask
 range-word-requires-2 c κs = let a = c .before .before .before .args in
     omega (arith, few-variables (a .form), range-fits (a .form) _ _ (ap (badVariables (a .form)) (sym (c .before .kind2 .given .1)) ∙ c .before .before .before .pre) .2)
 
+enum-told-6 : tie.Need-enum-told-6
+enum-told-6 c = search needs
+
 returns : tie.Need-returns
 unfolding badVariables boundMask
 returns c = simp (c .enum-told .given .1)
@@ -68,6 +71,10 @@ returns-7 : tie.Need-returns-7
 unfolding badVariables boundMask
 returns-7 c = simp (c .before .before .kind2 .given .1, c .range-word2 .ensures)
 
+returns-8 : tie.Need-returns-8
+unfolding badVariables boundMask
+returns-8 c = simp (c .enum-told6 .given .1)
+
 pub bound-word-spec : {M : Type 1} → statement M
 bound-word-spec =
     tie.close
@@ -81,10 +88,12 @@ bound-word-spec =
     range-word-requires
     enum-known-kind-2
     range-word-requires-2
+    enum-told-6
     returns
     returns-2
     returns-3
     returns-4
     returns-5
     returns-6
-    returns-7)
+    returns-7
+    returns-8)

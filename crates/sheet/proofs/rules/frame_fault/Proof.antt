@@ -1,5 +1,6 @@
 -- `sheet::rules::frame_fault` meets its contract: each test in its order.
 use mathlib.Core.Path.{sym, _∙_}
+use native.Mathlib.Omega.{arith}
 use borrow.Author.Tests.{lt-ltb, le-ltb}
 use Rattle.sheet.specs.Cause.{first}
 use Rattle.sheet.specs.Rules.{fieldCauses}
@@ -10,7 +11,7 @@ use Rattle.sheet.proofs.rules.frame_fault.Tie as tie
 
 returns : tie.Need-returns
 unfolding first fieldCauses
-returns c = simp (lt-ltb _ _ (c .if1 .taken))
+returns c = simp (lt-ltb 7 (c .before .before .args .f .k) (omega (arith, c .if1 .taken)))
 
 kind-of-requires : tie.Need-kind-of-requires
 kind-of-requires c κs = search needs
@@ -26,18 +27,18 @@ some-late-requires c κs = search needs
 
 returns-2 : tie.Need-returns-2
 unfolding first fieldCauses
-returns-2 c = simp (le-ltb _ _ (c .before .before .before .before .before .if1 .left), sym (c .before .before .before .before .kind-of .ensures), sym (c .before .before .before .used .ensures), sym (c .before .before .spare-set .ensures) ∙ c .if2 .taken)
+returns-2 c = simp (le-ltb 7 (c .before .before .before .before .before .before .before .args .f .k) (omega (arith, c .before .before .before .before .before .if1 .left)), sym (c .before .before .before .before .kind-of .ensures), sym (c .before .before .before .used .ensures), sym (c .before .before .spare-set .ensures) ∙ c .if2 .taken)
 
 returns-3 : tie.Need-returns-3
 unfolding first fieldCauses
-returns-3 c = simp (le-ltb _ _ (c .before .before .before .before .before .before .if1 .left), sym (c .before .before .before .before .before .kind-of .ensures), sym (c .before .before .before .before .used .ensures), sym (c .before .before .before .spare-set .ensures) ∙ c .before .if2 .left, sym (c .before .before .some-late .ensures) ∙ c .if3 .taken)
+returns-3 c = simp (le-ltb 7 (c .before .before .before .before .before .before .before .before .args .f .k) (omega (arith, c .before .before .before .before .before .before .if1 .left)), sym (c .before .before .before .before .before .kind-of .ensures), sym (c .before .before .before .before .used .ensures), sym (c .before .before .before .spare-set .ensures) ∙ c .before .if2 .left, sym (c .before .before .some-late .ensures) ∙ c .if3 .taken)
 
 variables-fault-requires : tie.Need-variables-fault-requires
 variables-fault-requires c κs = search needs
 
 returns-4 : tie.Need-returns-4
 unfolding first fieldCauses
-returns-4 c = simp (le-ltb _ _ (c .before .before .before .before .before .before .before .if1 .left), sym (c .before .before .before .before .before .before .kind-of .ensures), sym (c .before .before .before .before .before .used .ensures), sym (c .before .before .before .before .spare-set .ensures) ∙ c .before .before .if2 .left, sym (c .before .before .before .some-late .ensures) ∙ c .before .if3 .left) (c .variables-fault .ensures ∙ sym (first-variables _ _ _ _))
+returns-4 c = simp (le-ltb 7 (c .before .before .before .before .before .before .before .before .before .args .f .k) (omega (arith, c .before .before .before .before .before .before .before .if1 .left)), sym (c .before .before .before .before .before .before .kind-of .ensures), sym (c .before .before .before .before .before .used .ensures), sym (c .before .before .before .before .spare-set .ensures) ∙ c .before .before .if2 .left, sym (c .before .before .before .some-late .ensures) ∙ c .before .if3 .left) (c .variables-fault .ensures ∙ sym (first-variables _ _ _ _))
 
 pub frame-fault-spec : {M : Type 1} → statement M
 frame-fault-spec =

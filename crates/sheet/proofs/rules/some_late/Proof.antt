@@ -27,6 +27,9 @@ enum-known-kind-4 c = search needs
 enum-known-kind-5 : tie.Need-enum-known-kind-5
 enum-known-kind-5 c = search needs
 
+enum-told-3 : tie.Need-enum-told-3
+enum-told-3 c = search needs
+
 returns : tie.Need-returns
 unfolding someLate names
 returns c = simp (c .enum-told .given .1)
@@ -63,6 +66,10 @@ returns-9 : tie.Need-returns-9
 unfolding someLate names
 returns-9 c = simp (c .before .kind5 .given .1, or-false)
 
+returns-10 : tie.Need-returns-10
+unfolding someLate names
+returns-10 c = simp (c .enum-told3 .given .1)
+
 pub some-late-spec : {M : Type 1} → statement M
 some-late-spec =
     tie.close
@@ -74,6 +81,7 @@ some-late-spec =
     enum-known-kind-3
     enum-known-kind-4
     enum-known-kind-5
+    enum-told-3
     returns
     returns-2
     returns-3
@@ -82,4 +90,5 @@ some-late-spec =
     returns-6
     returns-7
     returns-8
-    returns-9)
+    returns-9
+    returns-10)

@@ -1,7 +1,6 @@
--- `sheet::rules::variables_fault` meets its contract: the range first, then by words whether a variable of it is bound.
+-- `sheet::rules::variables_fault` meets its contract: each test in its order.
 use mathlib.Core.Path.{sym, _∙_}
-use borrow.Author.Tests.{eq-eqb, ne-eqb}
-use Rattle.sheet.specs.Check.{variablesFault, meet-bound}
+use Rattle.sheet.specs.Check.{variablesFault}
 use borrow.Author.Needs.{needs}
 use Rattle.sheet.proofs.rules.variables_fault.Statement.{statement}
 use Rattle.sheet.proofs.rules.variables_fault.Tie as tie
@@ -13,22 +12,74 @@ returns : tie.Need-returns
 unfolding variablesFault
 returns c = simp (sym (c .before .bad-variables .ensures) ∙ c .if1 .taken)
 
-bound-word-requires : tie.Need-bound-word-requires
-unfolding variablesFault
-bound-word-requires c κs = sym (c .before .bad-variables .ensures) ∙ c .if1 .left
+named-both-requires : tie.Need-named-both-requires
+named-both-requires c κs = sym (c .before .bad-variables .ensures) ∙ c .if1 .left
+
+binds-gauge-requires : tie.Need-binds-gauge-requires
+binds-gauge-requires c κs = sym (c .before .before .bad-variables .ensures) ∙ c .before .if1 .left
+
+binds-again-requires : tie.Need-binds-again-requires
+binds-again-requires c κs = sym (c .before .before .before .bad-variables .ensures) ∙ c .before .before .if1 .left
 
 returns-2 : tie.Need-returns-2
 unfolding variablesFault
-returns-2 c = let a = c .before .before .before .before .args in
-    let g = sym (c .before .before .before .bad-variables .ensures) ∙ c .before .before .if1 .left in
-    simp (g, meet-bound (a .form) (a .kind) (a .bound) _ g (c .before .bound-word .ensures), ne-eqb _ _ (c .if2 .taken))
+returns-2 c =
+    simp (
+      sym (c .before .before .before .before .before .bad-variables .ensures) ∙ c .before .before .before .before .if1 .left,
+      sym (c .before .before .before .named-both .ensures),
+      sym (c .before .before .binds-gauge .ensures),
+      sym (c .before .binds-again .ensures),
+      c .if2 .taken,
+    )
 
 returns-3 : tie.Need-returns-3
 unfolding variablesFault
-returns-3 c = let a = c .before .before .before .before .args in
-    let g = sym (c .before .before .before .bad-variables .ensures) ∙ c .before .before .if1 .left in
-    simp (g, meet-bound (a .form) (a .kind) (a .bound) _ g (c .before .bound-word .ensures), eq-eqb _ _ (c .if2 .left))
+returns-3 c =
+    simp (
+      sym (c .before .before .before .before .before .before .bad-variables .ensures) ∙ c .before .before .before .before .before .if1 .left,
+      sym (c .before .before .before .before .named-both .ensures),
+      sym (c .before .before .before .binds-gauge .ensures),
+      sym (c .before .before .binds-again .ensures),
+      c .before .if2 .left,
+      c .if3 .taken,
+    )
+
+returns-4 : tie.Need-returns-4
+unfolding variablesFault
+returns-4 c =
+    simp (
+      sym (c .before .before .before .before .before .before .before .bad-variables .ensures) ∙ c .before .before .before .before .before .before .if1 .left,
+      sym (c .before .before .before .before .before .named-both .ensures),
+      sym (c .before .before .before .before .binds-gauge .ensures),
+      sym (c .before .before .before .binds-again .ensures),
+      c .before .before .if2 .left,
+      c .before .if3 .left,
+      c .if4 .taken,
+    )
+
+returns-5 : tie.Need-returns-5
+unfolding variablesFault
+returns-5 c =
+    simp (
+      sym (c .before .before .before .before .before .before .before .bad-variables .ensures) ∙ c .before .before .before .before .before .before .if1 .left,
+      sym (c .before .before .before .before .before .named-both .ensures),
+      sym (c .before .before .before .before .binds-gauge .ensures),
+      sym (c .before .before .before .binds-again .ensures),
+      c .before .before .if2 .left,
+      c .before .if3 .left,
+      c .if4 .left,
+    )
 
 pub variables-fault-spec : {M : Type 1} → statement M
 variables-fault-spec =
-    tie.close (tie.spec bad-variables-requires returns bound-word-requires returns-2 returns-3)
+    tie.close
+    (tie.spec
+    bad-variables-requires
+    returns
+    named-both-requires
+    binds-gauge-requires
+    binds-again-requires
+    returns-2
+    returns-3
+    returns-4
+    returns-5)

@@ -16,7 +16,7 @@ refused-requires c κs = search needs
 returns : tie.Need-returns
 returns c =
     let a = c .before .before .before .before .args in
-    same-checks _ _ _ _ _ _ _ _ (c .refused .ensures)
+    same-checks _ _ _ _ _ _ _ _ _ _ (c .refused .ensures)
     (size-checks (sheetOf (a .form) (now (a .sheet))) _ (c .before .before .size-fault .ensures) (c .before .if1 .taken))
 
 check-frames-requires : tie.Need-check-frames-requires
@@ -28,7 +28,7 @@ returns-2 : tie.Need-returns-2
 returns-2 c =
     let a = c .before .before .before .before .args in
     let s = sheetOf (a .form) (now (a .sheet)) in
-    frames-check s (size-none s _ (c .before .before .size-fault .ensures) (c .before .if1 .left)) _ _ _ (c .check-frames .ensures)
+    frames-check s (size-none s _ (c .before .before .size-fault .ensures) (c .before .if1 .left)) _ _ _ _ (c .check-frames .ensures)
 
 pub check-form-spec : {M : Type 1} → statement M
 check-form-spec =

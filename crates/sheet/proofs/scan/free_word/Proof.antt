@@ -65,6 +65,12 @@ range-word-requires-2 c κs = subst (Fit 64 (length (now (c .before .before .bef
 without-requires-2 : tie.Need-without-requires-2
 without-requires-2 c κs = search needs
 
+enum-known-kind-7 : tie.Need-enum-known-kind-7
+enum-known-kind-7 c = search needs
+
+input-word-requires-2 : tie.Need-input-word-requires-2
+input-word-requires-2 c κs = subst (Fit 64 (length (now (c .before .before .before .before .args .free)))) (c .before .kind7 .given .1) (c .before .before .before .before .pre)
+
 returns : tie.Need-returns
 unfolding freeWord
 returns c = simp (c .enum-told .given .1)
@@ -93,6 +99,10 @@ returns-7 : tie.Need-returns-7
 unfolding freeWord
 returns-7 c = simp (c .before .before .before .before .kind6 .given .1, c .before .before .word-at7 .ensures, c .before .range-word2 .ensures, c .without2 .ensures)
 
+returns-8 : tie.Need-returns-8
+unfolding freeWord
+returns-8 c = simp (c .before .before .kind7 .given .1, c .input-word2 .ensures)
+
 pub free-word-spec : {M : Type 1} → statement M
 free-word-spec =
     tie.close
@@ -116,10 +126,13 @@ free-word-spec =
     word-at-requires-7
     range-word-requires-2
     without-requires-2
+    enum-known-kind-7
+    input-word-requires-2
     returns
     returns-2
     returns-3
     returns-4
     returns-5
     returns-6
-    returns-7)
+    returns-7
+    returns-8)

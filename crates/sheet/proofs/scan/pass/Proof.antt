@@ -1,8 +1,7 @@
--- `sheet::scan::pass` meets its contract: the word goes to its place, the range to those bound.
+-- `sheet::scan::pass` meets its contract: the word goes to its place, and what the frame does to what is seen.
 use mathlib.Core.Path.{ap}
 use denote.Ref.{now}
 use lib.ListN.{set}
-use lib.Bits.{bitOr}
 use borrow.Author.Needs.{needs}
 use Rattle.sheet.proofs.scan.pass.Statement.{statement}
 use Rattle.sheet.proofs.scan.pass.Tie as tie
@@ -16,8 +15,8 @@ mul-words c = search needs
 slice-write-words : tie.Need-slice-write-words
 slice-write-words c = search needs
 
-bound-word-requires : tie.Need-bound-word-requires
-bound-word-requires c κs = search needs
+seen-after-requires : tie.Need-seen-after-requires
+seen-after-requires c κs = search needs
 
 same-length : tie.Need-same-length
 same-length c = search needs
@@ -25,9 +24,9 @@ same-length c = search needs
 returns : tie.Need-returns
 returns c =
     let a = c .before .before .before .before .args in
-    (ap (set (now (a .words)) (a .frame .number)) (c .before .free-word .ensures), ap (bitOr (a .bound)) (c .bound-word .ensures))
+    (ap (set (now (a .words)) (a .frame .number)) (c .before .free-word .ensures), c .seen-after .ensures)
 
 pub pass-spec : {M : Type 1} → statement M
 pass-spec =
     tie.close
-    (tie.spec free-word-requires mul-words slice-write-words bound-word-requires same-length returns)
+    (tie.spec free-word-requires mul-words slice-write-words seen-after-requires same-length returns)

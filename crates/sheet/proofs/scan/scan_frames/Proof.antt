@@ -99,7 +99,7 @@ abbrev sheet : Bool → RefT (List ℕ) → Sheet
 sheet m s = sheetOf (formOf m) (now s)
 
 abbrev Goes : Bool → RefT (List ℕ) → List ℕ → ℕ → Scan → Type 0
-Goes m s l k z = Scanning (sheet m s) l k (z .more) (z .bound) (z .fault) (z .place)
+Goes m s l k z = Scanning (sheet m s) l k (z .more) (z .seen) (z .fault) (z .place)
 
 record State (s : RefT (List ℕ)) (m : Bool) (n : ℕ) : Type 0 where
   reader : Reader
@@ -123,11 +123,11 @@ module _ (s : RefT (List ℕ)) (m : Bool) (n : ℕ) where
     reads : readBy (t .reader) ≡ sheet m s
     reads = ap₂ (λ (w : Bool) (b : RefT (List ℕ)). sheet w b) (t .wide-is) (t .bytes-is)
 
-    asked : Passed (sheet (t .scan .wide) s) (t .words) (t .scan .bound) (d .number) × (d .number < frames (sheet (t .scan .wide) s)) × (d .kind ≡ kind (sheet (t .scan .wide) s) (d .number))
+    asked : Passed (sheet (t .scan .wide) s) (t .words) (t .scan .seen) (d .number) × (d .number < frames (sheet (t .scan .wide) s)) × (d .kind ≡ kind (sheet (t .scan .wide) s) (d .number))
     asked =
         let g = t .scanning .going more in
-        subst (λ (w : Bool). Passed (sheet w s) (t .words) (t .scan .bound) (d .number) × (d .number < frames (sheet w s)) × (d .kind ≡ kind (sheet w s) (d .number))) (sym (t .kept)) (
-          subst (Passed (sheet m s) (t .words) (t .scan .bound)) (sym (e .0)) (g .0),
+        subst (λ (w : Bool). Passed (sheet w s) (t .words) (t .scan .seen) (d .number) × (d .number < frames (sheet w s)) × (d .kind ≡ kind (sheet w s) (d .number))) (sym (t .kept)) (
+          subst (Passed (sheet m s) (t .words) (t .scan .seen)) (sym (e .0)) (g .0),
           subst (λ (k : ℕ). k < frames (sheet m s)) (sym (e .0)) (g .1),
           subst (λ (k : ℕ). d .kind ≡ kind (sheet m s) k) (sym (e .0)) (e .1 ∙ ap (λ (h : Sheet). kind h (t .reader .at)) reads),
         )
@@ -173,7 +173,7 @@ module _ {M : Type 1} (𝓤 : URA M) (H : Heap 𝓤) (A : Atoms 𝓤) (W : Given
   abbrev Post : Val → SProp 𝓤
   Post = walkOf 𝓤 H A f.ended stayed (f.clauses 𝓤 H A at-mem run) .post (((κ, (ρ, tt)), (q, (p, tt)), tt, x, at), tt)
 
-  exits : (z : Scan) (l : List ℕ) → Scanned (sheet (z₀ .wide) s) l (z .bound) (z .fault) (z .place) → length l ≡ length (now n) → Is S.the-row z (S′.lowered z ∷ [])
+  exits : (z : Scan) (l : List ℕ) → Scanned (sheet (z₀ .wide) s) l (z .seen) (z .fault) (z .place) → length l ≡ length (now n) → Is S.the-row z (S′.lowered z ∷ [])
       → ent 𝓤 (⋆ 𝓤 H A (‵ (flft κ q) ∷ ‵ (flft ρ p) ∷ ‵ Bytes ∷ ‵ (Words l) ∷ [])) (Post (S′.lowered z))
   exits z l e same is =
       qed W (‵ (flft κ q) ∷ ‵ (flft ρ p) ∷ ‵ Bytes ∷ ‵ (Words l) ∷ []) ∵
@@ -200,7 +200,7 @@ module _ {M : Type 1} (𝓤 : URA M) (H : Heap 𝓤) (A : Atoms 𝓤) (W : Given
     abbrev Owns : Fml
     Owns = owns (ShrSlice (named 0) κ u8 ∷ MutSlice (named 1) (β ∷ []) u64 ∷ S.the-row ∷ F.the-row ∷ []) y vals
 
-    goes : Passed (sheet (z .wide) s) l (z .bound) (d .number) × (d .number < frames (sheet (z .wide) s)) × (d .kind ≡ kind (sheet (z .wide) s) (d .number)) → ent 𝓤 (⋆ 𝓤 H A (Toks ∷ ‵ Owns ∷ [])) (Visit 𝓤 H A at-mem run .pre to)
+    goes : Passed (sheet (z .wide) s) l (z .seen) (d .number) × (d .number < frames (sheet (z .wide) s)) × (d .kind ≡ kind (sheet (z .wide) s) (d .number)) → ent 𝓤 (⋆ 𝓤 H A (Toks ∷ ‵ Owns ∷ [])) (Visit 𝓤 H A at-mem run .pre to)
     goes ok = qed W (Toks ∷ ‵ Owns ∷ []) ∵ says ! ok $ frame ! $ done !
 
   -- what `visit` says of its result and of the last words

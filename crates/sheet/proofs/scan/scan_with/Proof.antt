@@ -25,7 +25,7 @@ same-length : tie.Need-same-length
 same-length c = search needs
 
 returns : tie.Need-returns
-returns c = same-checks _ _ _ _ _ _ _ _ (c .refused .ensures) (c .before .before .before .before .before .scan-frames .ensures .refused (c .before .if1 .taken))
+returns c = same-checks _ _ _ _ _ _ _ _ _ _ (c .refused .ensures) (c .before .before .before .before .before .scan-frames .ensures .refused (c .before .if1 .taken))
 
 of-requires : tie.Need-of-requires
 of-requires c κs = search needs
@@ -74,7 +74,7 @@ returns-2 c =
     let a = c .before .before .before .before .before .before .before .before .before .before .before .before .args in
     let z = none-sized (sheetOf (formOf (a .wide)) (now (a .sheet))) (c .before .before .before .before .before .before .before .before .before .before .before .before .pre .0) in
     let f = c .before .before .before .of .ensures in
-    root-read _ _ _ (c .before .before .before .before .before .before .before .before .scan-frames .ensures .passed (c .before .before .before .before .if1 .left)) (z .least) _ _ f (frames-of (length (now (a .sheet))) f (c .before .before .frames .ensures)) _ _ _ (c .root-answer .ensures)
+    root-read _ _ _ (c .before .before .before .before .before .before .before .before .scan-frames .ensures .passed (c .before .before .before .before .if1 .left)) (z .least) _ _ f (frames-of (length (now (a .sheet))) f (c .before .before .frames .ensures)) _ _ _ _ (c .root-answer .ensures)
 
 pub scan-with-spec : {M : Type 1} → statement M
 scan-with-spec =

@@ -1,9 +1,9 @@
 -- `solver::question::solve` meets its contract: each form has its own scratch. Assumes nothing.
-use native.Mathlib.Omega.{arith}
-use mathlib.Core.Path.{sym, _∙_}
-use borrow.Author.Needs.{needs}
 use Rattle.form.specs.declared.Form.the-variants.{Narrow, Wide}
+use mathlib.Core.Path.{sym, _∙_}
+use native.Mathlib.Omega.{arith}
 use Rattle.solver.specs.QuestionLaws.{asked-words}
+use borrow.Author.Needs.{needs}
 use Rattle.solver.proofs.question.solve.Statement.{statement}
 use Rattle.solver.proofs.question.solve.Tie as tie
 
@@ -14,21 +14,13 @@ enum-told : tie.Need-enum-told
 enum-told c = search needs
 
 solve-narrow-requires : tie.Need-solve-narrow-requires
-solve-narrow-requires c κs =
-    let pre° = c .before .before .before .before .before .before .before .before .before .before .pre in
-    let form° = c .before .before .before .before .before .form in
-    let enum-told° = c .before .before .before .enum-told in
-    (pre°, omega (arith, asked-words (pre° .1) Narrow (sym (form° .ensures) ∙ enum-told° .given .1)))
+solve-narrow-requires c κs = ((c .before .before .before .before .before .before .before .before .before .before .pre), omega (arith, asked-words ((c .before .before .before .before .before .before .before .before .before .before .pre) .1) Narrow (sym ((c .before .before .before .before .before .form) .ensures) ∙ (c .before .before .before .enum-told) .given .1)))
 
 enum-told-2 : tie.Need-enum-told-2
 enum-told-2 c = search needs
 
 solve-wide-requires : tie.Need-solve-wide-requires
-solve-wide-requires c κs =
-    let pre° = c .before .before .before .before .before .before .before .before .before .before .pre in
-    let form° = c .before .before .before .before .before .form in
-    let enum-told2° = c .before .before .before .enum-told2 in
-    (pre°, omega (arith, asked-words (pre° .1) Wide (sym (form° .ensures) ∙ enum-told2° .given .1)))
+solve-wide-requires c κs = ((c .before .before .before .before .before .before .before .before .before .before .pre), omega (arith, asked-words ((c .before .before .before .before .before .before .before .before .before .before .pre) .1) Wide (sym ((c .before .before .before .before .before .form) .ensures) ∙ (c .before .before .before .enum-told2) .given .1)))
 
 same-length : tie.Need-same-length
 same-length c = search needs

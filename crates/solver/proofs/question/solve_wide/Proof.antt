@@ -1,7 +1,7 @@
--- `solver::question::solve_wide` meets its contract: the scratch is empty, and has a place for every node. Assumes nothing.
+-- `solver::question::solve_wide` meets its contract: the scratch is that of a wide sheet. Assumes nothing.
 use mathlib.Core.Path.{refl}
-use borrow.Author.Needs.{needs}
 use Rattle.solver.specs.QuestionLaws.{blank-scratch}
+use borrow.Author.Needs.{needs}
 use Rattle.solver.proofs.question.solve_wide.Statement.{statement}
 use Rattle.solver.proofs.question.solve_wide.Tie as tie
 
@@ -12,9 +12,7 @@ slice-aggregate-solve-in-2 : tie.Need-slice-aggregate-solve-in-2
 slice-aggregate-solve-in-2 c = search needs
 
 solve-in-requires : tie.Need-solve-in-requires
-solve-in-requires c κs =
-    let pre° = c .before .before .before .before .before .before .before .before .pre in
-    (pre° .0, blank-scratch 6002 (pre° .1) refl refl)
+solve-in-requires c κs = ((c .before .before .before .before .before .before .before .before .pre) .0, blank-scratch 6006 ((c .before .before .before .before .before .before .before .before .pre) .1) refl refl)
 
 same-length : tie.Need-same-length
 same-length c = search needs

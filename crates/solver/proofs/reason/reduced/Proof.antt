@@ -1,32 +1,35 @@
 -- `solver::reason::reduced` meets its contract: the loop is the definition's fold from the last variable to the first. Assumes nothing.
 use native.Mathlib.Omega.{arith}
-use mathlib.Core.Path.{sym, _∙_, ap}
+use mathlib.Core.Path.{ap}
 use lib.ListN.{length}
 use borrow.Author.Needs.{needs}
-use Rattle.solver.specs.Why.{Turning, turning-start, turning-next, turning-end}
+use Rattle.solver.specs.Why.{aimed-less, Turning, turning-start, turning-next, turning-end}
 use Rattle.solver.proofs.reason.reduced.Statement.{statement}
 use Rattle.solver.proofs.reason.reduced.Tie as tie
 
 abbrev Inv-loop : tie.InvT-loop
-Inv-loop net₀ v reason under₀ over₀ left₀ x₀ net under over left x = Turning net₀ v (left₀ .cube .mask) (left₀ .cube .values) reason under₀ (left₀ .kept .under) over₀ (left₀ .kept .over) x (left .cube .mask) (left .cube .values) (left .reason) net under (left .kept .under) over (left .kept .over)
+Inv-loop net₀ aim reason under₀ over₀ left₀ x₀ net under over left x = Turning net₀ (aim .all) (aim .some) (aim .v) (left₀ .cube .mask) (left₀ .cube .values) reason under₀ (left₀ .kept .under) over₀ (left₀ .kept .over) x (left .cube .mask) (left .cube .values) (left .reason) net under (left .kept .under) over (left .kept .over)
 
 abbrev μ-loop : tie.MeasureT-loop
-μ-loop net₀ v reason under₀ over₀ left₀ x₀ net under over left x = x
+μ-loop net₀ aim reason under₀ over₀ left₀ x₀ net under over left x = x
 
 variables-of-requires : tie.Need-variables-of-requires Inv-loop μ-loop
 variables-of-requires c κs = search needs
 
 loop-holds : tie.Need-loop-holds Inv-loop μ-loop
-loop-holds c = turning-start (c .variables-of .ensures)
+loop-holds c =
+    let variables-of° = c .variables-of in
+    turning-start (variables-of° .ensures)
 
 sub-x : tie.Need-sub-x Inv-loop μ-loop
 sub-x c = search needs
 
 dropped-requires : tie.Need-dropped-requires Inv-loop μ-loop
 dropped-requires c κs =
-    let pre° = c .before .before .before .before .before .before .before .before .before .before .before .before .pre in
     let loop° = c .before .before .before .before .before .before .loop in
-    ((pre° .0 .0, pre° .0 .1, omega (arith, loop° .inv .low)), (pre° .1 .0, rw (loop° .inv .same) (loop° .inv .each (pre° .1 .0) (pre° .1 .1) (pre° .1 .2) .ready)))
+    let pre° = c .before .before .before .before .before .before .before .before .before .before .before .before .pre in
+    let J = loop° .inv .each (pre° .1 .0) (pre° .1 .1) (pre° .1 .2) in
+    ((pre° .0 .0, pre° .0 .1, omega (arith, loop° .inv .low)), ((pre° .1 .0, rw (loop° .inv .same) (J .ready)), rw (loop° .inv .same) (aimed-less (pre° .0 .2) (J .less))))
 
 loop-less : tie.Need-loop-less Inv-loop μ-loop
 loop-less c = search needs

@@ -1,178 +1,81 @@
--- `solver::verdict::ask` meets its contract: the search of the last frame over the free variables that are not entered. Assumes nothing.
-use native.Mathlib.Omega.{arith}
-use mathlib.Core.Path.{_∙_, ap}
-use lib.ListN.{length}
+-- `solver::verdict::ask` meets its contract: no setting of the unread gauges fails, or one does. Assumes nothing.
+use mathlib.Core.Path.{sym, _∙_}
+use Rattle.net.specs.Sheet.{net-form}
+use Rattle.solver.specs.Ask.{ready-some}
+use Rattle.solver.specs.GaugedAsk.{answered-plain, answered-failed, ready-chosen, answered-chosen}
 use borrow.Author.Needs.{needs}
-use Rattle.proxies.specs.KeptLaws.{low-fits}
-use Rattle.search.specs.SearchLaws.{tables-fit}
-use Rattle.solver.specs.Ask.{entered-asking, answered-yes, answered-no}
 use Rattle.solver.proofs.verdict.ask.Statement.{statement}
 use Rattle.solver.proofs.verdict.ask.Tie as tie
 
-form-requires : tie.Need-form-requires
-form-requires c κs = search needs
+unread-requires : tie.Need-unread-requires
+unread-requires c κs = search needs
 
-free-requires : tie.Need-free-requires
-free-requires c κs = search needs
-
-frames-requires : tie.Need-frames-requires
-frames-requires c κs = search needs
-
-sub-last : tie.Need-sub-last
-sub-last c = search needs
-
-without-requires : tie.Need-without-requires
-without-requires c κs = search needs
-
-of-requires : tie.Need-of-requires
-of-requires c κs = search needs
-
-solve-requires : tie.Need-solve-requires
-solve-requires c κs =
-    let pre° = c .before .before .before .before .before .before .before .before .before .before .before .before .before .before .pre in
-    let free° = c .before .before .before .before .before .before .before .free in
-    let without° = c .before .before .before .without in
-    let of° = c .before .before .of in
-    (pre° .0, entered-asking (pre° .1) 2 (omega arith) (omega arith) (free° .ensures) (without° .ensures) (of° .ensures))
-
-cast-ensure : tie.Need-cast-ensure
-cast-ensure c =
-    let frames° = c .before .before .before .before .before .before .before .before .before .before .before .before .before .before .before .frames in
-    let pre° = c .before .before .before .before .before .before .before .before .before .before .before .before .before .before .before .before .before .before .before .before .before .before .before .before .pre in
-    omega (arith, frames° .ensures, pre° .1 .net-of .ground .room, pre° .1 .net-of .ground .few)
-
-low-requires : tie.Need-low-requires
-low-requires c κs = search needs
-
-low-requires-2 : tie.Need-low-requires-2
-low-requires-2 c κs = search needs
-
-low-requires-3 : tie.Need-low-requires-3
-low-requires-3 c κs = search needs
-
-ensure-requires : tie.Need-ensure-requires
-ensure-requires c κs =
-    let form° = c .before .before .before .before .before .before .before .before .before .before .before .before .before .before .before .before .before .before .before .before .before .before .form in
-    let solve° = c .before .before .before .before .before .before .before .before .before .before .before .before .solve in
-    let low° = c .before .before .low in
-    let low3° = c .low3 in
-    (tables-fit (form° .ensures) (solve° .ensures .1 .0 .tables) .0, low-fits (form° .result) _ (low° .ensures), low-fits (form° .result) _ (low3° .ensures))
+chosen-requires : tie.Need-chosen-requires
+chosen-requires c κs = search needs
 
 same-length : tie.Need-same-length
-same-length c =
-    let solve° = c .before .before .before .before .before .before .before .before .before .before .before .before .before .before .before .solve in
-    ap length (solve° .ensures .1 .1)
+same-length c = search needs
 
 same-length-2 : tie.Need-same-length-2
-same-length-2 c =
-    let ensure° = c .before .before .ensure in
-    let solve° = c .before .before .before .before .before .before .before .before .before .before .before .before .before .before .before .solve in
-    ensure° .ensures .grown .same ∙ solve° .ensures .1 .0 .under .same
+same-length-2 c = search needs
 
 same-length-3 : tie.Need-same-length-3
-same-length-3 c =
-    let solve° = c .before .before .before .before .before .before .before .before .before .before .before .before .before .before .before .solve in
-    solve° .ensures .1 .0 .over .same
+same-length-3 c = search needs
 
 returns : tie.Need-returns
-returns c =
-    let solve° = c .before .before .before .before .before .before .before .before .before .before .before .before .before .before .before .solve in
-    let form° = c .before .before .before .before .before .before .before .before .before .before .before .before .before .before .before .before .before .before .before .before .before .before .before .before .before .form in
-    let free° = c .before .before .before .before .before .before .before .before .before .before .before .before .before .before .before .before .before .before .before .before .before .before .before .free in
-    let without° = c .before .before .before .before .before .before .before .before .before .before .before .before .before .before .before .before .before .before .before .without in
-    let of° = c .before .before .before .before .before .before .before .before .before .before .before .before .before .before .before .before .before .before .of in
-    let frames° = c .before .before .before .before .before .before .before .before .before .before .before .before .before .before .before .before .before .before .before .before .before .frames in
-    let if1° = c .before .before .before .before .before .before .before .if1 in
-    let low° = c .before .before .before .before .before .low in
-    let low2° = c .before .before .before .before .low2 in
-    let low3° = c .before .before .before .low3 in
-    let ensure° = c .before .before .ensure in (
-      solve° .ensures .1 .1,
-      λ s R. answered-yes R (form° .ensures) (free° .ensures) (without° .ensures) (of° .ensures) (frames° .ensures) (solve° .ensures .1 .0) (rw (if1° .taken) at (solve° .ensures .0)) (low° .ensures) (low2° .ensures) (low3° .ensures) (ensure° .ensures),
-    )
+returns c = ((c .before .before .before .before .before .before .chosen) .ensures .0, λ s R. answered-plain R (sym ((c .before .before .before .before .before .before .before .before .before .before .before .unread) .ensures s (R .net-of)) ∙ (c .before .before .before .before .before .before .before .before .before .before .if1) .taken) ((c .before .before .before .before .before .before .chosen) .ensures .1 s R))
 
-cast-ensure-2 : tie.Need-cast-ensure-2
-cast-ensure-2 c =
-    let frames° = c .before .before .before .before .before .before .before .before .before .before .before .before .before .before .before .frames in
-    let pre° = c .before .before .before .before .before .before .before .before .before .before .before .before .before .before .before .before .before .before .before .before .before .before .before .before .pre in
-    omega (arith, frames° .ensures, pre° .1 .net-of .ground .room, pre° .1 .net-of .ground .few)
+failing-requires : tie.Need-failing-requires
+failing-requires c κs = search needs
 
-low-requires-4 : tie.Need-low-requires-4
-low-requires-4 c κs = search needs
-
-low-requires-5 : tie.Need-low-requires-5
-low-requires-5 c κs = search needs
-
-low-requires-6 : tie.Need-low-requires-6
-low-requires-6 c κs = search needs
-
-ensure-requires-2 : tie.Need-ensure-requires-2
-ensure-requires-2 c κs =
-    let form° = c .before .before .before .before .before .before .before .before .before .before .before .before .before .before .before .before .before .before .before .before .before .before .form in
-    let solve° = c .before .before .before .before .before .before .before .before .before .before .before .before .solve in
-    let low4° = c .before .before .low4 in
-    let low6° = c .low6 in
-    (tables-fit (form° .ensures) (solve° .ensures .1 .0 .tables) .1, low-fits (form° .result) _ (low4° .ensures), low-fits (form° .result) _ (low6° .ensures))
+failed-requires : tie.Need-failed-requires
+failed-requires c κs = let P = (c .before .before .before .before .before .before .before .before .before .before .before .before .before .before .before .before .before .before .before .before .pre) in let G = (c .before .before .before .before .before .before .before .before .before .before .failing) .ensures .1 (P .0) (P .1) .1 in (rw ((c .before .before .before .before .before .before .before .before .before .before .failing) .ensures .0) (P .1 .net-of .ground), rw ((c .before .before .before .before .before .before .before .before .before .before .failing) .ensures .0) (ready-some (P .1)), rw ((c .before .before .before .before .before .before .before .before .before .before .failing) .ensures .0, net-form (P .1 .net-of)) (G .tables .over .fits))
 
 same-length-4 : tie.Need-same-length-4
-same-length-4 c =
-    let solve° = c .before .before .before .before .before .before .before .before .before .before .before .before .before .before .before .solve in
-    ap length (solve° .ensures .1 .1)
+same-length-4 c = search needs
 
 same-length-5 : tie.Need-same-length-5
-same-length-5 c =
-    let solve° = c .before .before .before .before .before .before .before .before .before .before .before .before .before .before .before .solve in
-    solve° .ensures .1 .0 .under .same
+same-length-5 c = search needs
 
 same-length-6 : tie.Need-same-length-6
-same-length-6 c =
-    let ensure2° = c .before .before .ensure2 in
-    let solve° = c .before .before .before .before .before .before .before .before .before .before .before .before .before .before .before .solve in
-    ensure2° .ensures .grown .same ∙ solve° .ensures .1 .0 .over .same
+same-length-6 c = search needs
 
 returns-2 : tie.Need-returns-2
-returns-2 c =
-    let solve° = c .before .before .before .before .before .before .before .before .before .before .before .before .before .before .before .solve in
-    let form° = c .before .before .before .before .before .before .before .before .before .before .before .before .before .before .before .before .before .before .before .before .before .before .before .before .before .form in
-    let free° = c .before .before .before .before .before .before .before .before .before .before .before .before .before .before .before .before .before .before .before .before .before .before .before .free in
-    let without° = c .before .before .before .before .before .before .before .before .before .before .before .before .before .before .before .before .before .before .before .without in
-    let of° = c .before .before .before .before .before .before .before .before .before .before .before .before .before .before .before .before .before .before .of in
-    let frames° = c .before .before .before .before .before .before .before .before .before .before .before .before .before .before .before .before .before .before .before .before .before .frames in
-    let if1° = c .before .before .before .before .before .before .before .if1 in
-    let low4° = c .before .before .before .before .before .low4 in
-    let low5° = c .before .before .before .before .low5 in
-    let low6° = c .before .before .before .low6 in
-    let ensure2° = c .before .before .ensure2 in (
-      solve° .ensures .1 .1,
-      λ s R. answered-no R (form° .ensures) (free° .ensures) (without° .ensures) (of° .ensures) (frames° .ensures) (solve° .ensures .1 .0) (rw (if1° .left) at (solve° .ensures .0)) (low4° .ensures) (low5° .ensures) (low6° .ensures) (ensure2° .ensures),
-    )
+returns-2 c = ((c .before .before .before .before .before .before .before .before .before .before .before .before .before .failing) .ensures .0, λ s R. let F = ((c .before .before .before .before .before .before .before .before .before .before .before .before .before .failing) .ensures .1 s R) in rw ((c .before .before .failed) .ensures .1) (answered-failed R (rw ((c .before .before .before .before .before .if2) .taken) at (F .0)) ((c .before .before .before .before .before .before .before .before .before .before .before .before .before .before .before .before .before .before .unread) .ensures s (R .net-of)) (F .1) (rw ((c .before .before .before .before .before .before .before .before .before .before .before .before .before .failing) .ensures .0) at ((c .before .before .failed) .ensures .0))))
+
+chosen-requires-2 : tie.Need-chosen-requires-2
+chosen-requires-2 c κs = let s = (c .before .before .before .before .before .before .before .before .before .before .before .before .before .before .before .before .before .before .before .before .before .pre) .0 in let R = (c .before .before .before .before .before .before .before .before .before .before .before .before .before .before .before .before .before .before .before .before .before .pre) .1 in let F = (c .before .before .before .before .before .before .before .before .before .before .before .failing) .ensures .1 s R in (s, rw ((c .before .before .before .before .before .before .before .before .before .before .before .failing) .ensures .0) (ready-chosen R (rw ((c .before .before .before .if2) .left) at (F .0)) ((c .before .before .before .before .before .before .before .before .before .before .before .before .before .before .before .before .unread) .ensures s (R .net-of)) (F .1)))
+
+same-length-7 : tie.Need-same-length-7
+same-length-7 c = search needs
+
+same-length-8 : tie.Need-same-length-8
+same-length-8 c = search needs
+
+same-length-9 : tie.Need-same-length-9
+same-length-9 c = search needs
+
+returns-3 : tie.Need-returns-3
+returns-3 c = ((c .before .before .before .before .before .before .chosen2) .ensures .0 ∙ (c .before .before .before .before .before .before .before .before .before .before .before .before .before .before .before .before .before .before .failing) .ensures .0, λ s R. let F = ((c .before .before .before .before .before .before .before .before .before .before .before .before .before .before .before .before .before .before .failing) .ensures .1 s R) in let L = rw ((c .before .before .before .before .before .before .before .before .before .before .if2) .left) at (F .0) in answered-chosen R L ((c .before .before .before .before .before .before .before .before .before .before .before .before .before .before .before .before .before .before .before .before .before .before .before .unread) .ensures s (R .net-of)) (F .1) ((rw ((c .before .before .before .before .before .before .before .before .before .before .before .before .before .before .before .before .before .before .failing) .ensures .0) at ((c .before .before .before .before .before .before .chosen2) .ensures .1 s)) (ready-chosen R L ((c .before .before .before .before .before .before .before .before .before .before .before .before .before .before .before .before .before .before .before .before .before .before .before .unread) .ensures s (R .net-of)) (F .1))))
 
 pub ask-spec : {M : Type 1} → statement M
 ask-spec =
     tie.close
     (tie.spec
-    form-requires
-    free-requires
-    frames-requires
-    sub-last
-    without-requires
-    of-requires
-    solve-requires
-    cast-ensure
-    low-requires
-    low-requires-2
-    low-requires-3
-    ensure-requires
+    unread-requires
+    chosen-requires
     same-length
     same-length-2
     same-length-3
     returns
-    cast-ensure-2
-    low-requires-4
-    low-requires-5
-    low-requires-6
-    ensure-requires-2
+    failing-requires
+    failed-requires
     same-length-4
     same-length-5
     same-length-6
-    returns-2)
+    returns-2
+    chosen-requires-2
+    same-length-7
+    same-length-8
+    same-length-9
+    returns-3)
