@@ -9,10 +9,11 @@
 #include "hammerloom.h"
 
 enum { KIB = 1024, LEAST = 64 * KIB, MOST = 8192 * KIB, STEP = 16 * KIB };
-enum { INPUT = 1, NOT = 2, AND = 3, OR = 4, EXISTS = 5, FORALL = 6 };
+enum { INPUT = 1, NOT = 2, AND = 3, OR = 4, EXISTS = 5, FORALL = 6, GAUGE = 7 };
 
 struct sheet {
     int wide;
+    int gauged;
     unsigned frames;
     uint8_t bytes[HAMMERLOOM_WIDE_MOST_SHEET_FRAMES * HAMMERLOOM_WIDE_FRAME_BYTES];
 };
@@ -33,15 +34,18 @@ static unsigned add(unsigned k, unsigned a, unsigned b, unsigned c) {
     return sheet.frames++;
 }
 
+/* An open variable: on a sheet with gauges, those with even numbers are. */
+static unsigned add_open(unsigned v) { return add(sheet.gauged && v % 2 == 0 ? GAUGE : INPUT, v, 0, 0); }
+
 /* EXISTS 1 of 0 AND 1: no look at the parts decides it while 0 is set. */
 static unsigned quantifier(void) {
-    const unsigned both = add(AND, add(INPUT, 0, 0, 0), add(INPUT, 1, 0, 0), 0);
+    const unsigned both = add(AND, add_open(0), add(INPUT, 1, 0, 0), 0);
     return add(EXISTS, both, 1, 1);
 }
 
 static void gates_above(void) {
     unsigned last = quantifier();
-    const unsigned input = add(INPUT, 2, 0, 0);
+    const unsigned input = add_open(3);
     while (sheet.frames < most_frames())
         last = add(AND, last, input, 0);
 }
@@ -55,7 +59,8 @@ static void nots_above(void) {
 /* Every variable but two bound, EXISTS and FORALL in turn, each over an exclusive or; NOTs above. */
 static void alternation(void) {
     unsigned inputs[HAMMERLOOM_WIDE_VARIABLES], last;
-    for (unsigned v = 0; v < variables(); v++)
+    inputs[0] = add_open(0);
+    for (unsigned v = 1; v < variables(); v++)
         inputs[v] = add(INPUT, v, 0, 0);
     last = inputs[0];
     for (unsigned v = 1; v + 1 < variables() && sheet.frames + 8 < most_frames(); v++) {
@@ -72,7 +77,7 @@ static void alternation(void) {
 static void all_open(void) {
     unsigned last = 0;
     for (unsigned v = 0; v < variables(); v++)
-        last = add(INPUT, v, 0, 0);
+        last = add_open(v);
     while (sheet.frames + 2 <= most_frames()) {
         const unsigned v = sheet.frames % variables();
         last = add(AND, last, add(OR, v, (v + 1) % variables(), 0), 0);
@@ -138,14 +143,15 @@ int main(void) {
     } sheets[] = {{"gates above a quantifier", gates_above}, {"NOTs above a quantifier", nots_above}, {"alternation", alternation}, {"all variables open", all_open}};
 
     printf("| sheet | form | frames | stack, KiB | ASK and WHY, us |\n|---|---|---|---|---|\n");
-    for (size_t i = 0; i < sizeof sheets / sizeof sheets[0]; i++)
+    for (size_t i = 0; i < 2 * sizeof sheets / sizeof sheets[0]; i++)
         for (int wide = 0; wide < 2; wide++) {
             sheet.wide = wide;
+            sheet.gauged = i % 2;
             sheet.frames = 0;
-            sheets[i].make();
+            sheets[i / 2].make();
             fflush(stdout);
             const unsigned stack = least_stack();
-            printf("| %s | %s | %u | %u | %.0f |\n", sheets[i].name, wide ? "wide" : "narrow", sheet.frames, stack, microseconds());
+            printf("| %s%s | %s | %u | %u | %.0f |\n", sheets[i / 2].name, sheet.gauged ? ", gauges" : "", wide ? "wide" : "narrow", sheet.frames, stack, microseconds());
         }
     return 0;
 }

@@ -2,7 +2,7 @@
 -- Each is proved equal to its definition. Assumes nothing.
 use Prim.Native.Nat.{ℕ, zero, suc, _+_, _-_, _^_, _<_}
 use native.Mathlib.Omega.{arith}
-use native.Mathlib.Nat.{pow-suc, add-zero, add-suc, zero-lt-suc}
+use native.Mathlib.Nat.{add-zero, add-suc}
 use mathlib.Core.Path.{_≡_, refl, sym, ap, fun-ext, _∙_}
 use mathlib.Core.Bool.{Bool, true, false, not, cond, _&&_}
 use lib.Dec.{eqb, ltb}
@@ -11,7 +11,7 @@ use Rattle.words.specs.Logic.{by-bool, tests}
 use Rattle.words.specs.Word.{bit, bit-high}
 use Rattle.words.specs.Mask.{inside, sub-lt}
 use Rattle.formula.specs.Formula.{Formula, quant}
-use Rattle.formula.specs.Over.{quants, over}
+use Rattle.formula.specs.Over.{quants, over, below-pow}
 use Rattle.formula.specs.Least.{least}
 use Rattle.formula.specs.Ask.{Verdict, yes, freeMask-lt}
 use Rattle.formula.specs.Gauges.{unread, ours, possible, assured, fails, noAt, verdict, reason}
@@ -37,10 +37,6 @@ quants-above : (d : Bool) (m n : ℕ) (f : Formula) → m < 2 ^ n → (r : ℕ) 
 unfolding quants
 quants-above d m n f h zero = rw (add-zero n)
 quants-above d m n f h (suc r) = rw (add-suc n r, bit-high n (n + r) h (omega arith)) (quants-above d m n f h r)
-
-below-pow : (n : ℕ) → n < 2 ^ n
-below-pow zero = zero-lt-suc zero
-below-pow (suc n) = omega (arith, below-pow n, pow-suc 2 n)
 
 quantsOver-over : (d : Bool) (m n : ℕ) (f : Formula) → m < 2 ^ n → quantsOver d m n f ≡ over d m f
 unfolding over

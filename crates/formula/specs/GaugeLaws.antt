@@ -1,21 +1,21 @@
 -- Where some variables are gauges: what ASK's verdict and word say in terms of assignments, what a solver shows, and when ASK is `ask`. Assumes nothing.
-use Prim.Native.Nat.{ℕ, suc, _+_, _^_, _≤_, _<_}
+use Prim.Native.Nat.{ℕ, suc, _+_, _^_, _<_}
 use native.Mathlib.Omega.{arith}
 use native.Mathlib.Nat.{add-zero}
 use mathlib.Core.Path.{_≡_, refl, sym, ap, ap₂, _∙_}
-use mathlib.Core.Bool.{Bool, true, false, not, cond, _&&_, _||_, and-false}
+use mathlib.Core.Bool.{Bool, true, false, not, _&&_, _||_, and-false, or-false}
 use lib.Dec.{eqb, ltb}
-use lib.Bits.{bitAnd, bitOr, or-zero-r, and-zero-r}
+use lib.Bits.{bitOr, or-zero-r, and-zero-r}
 use borrow.Author.Tests.{lt-ltb, ltb-true}
-use Rattle.words.specs.Logic.{by-bool, clash, and-both, or-cases, tests}
-use Rattle.words.specs.Word.{bit, bit-and, bit-or, bit-none, ext}
+use Rattle.words.specs.Logic.{by-bool, clash, and-both, or-cases, not-true, tests}
+use Rattle.words.specs.Word.{bit, bit-and, bit-or, ext}
 use Rattle.words.specs.Mask.{Sub, Apart, without, inside, maskOf, bit-without, bit-maskOf, sub-bits, bits-sub, bits-apart, apart-bits, sub-inside, inside-sub, sub-trans, sub-le, none-sub, or-sum, or-sub, apart-sym, apart-sub, sub-or-left, sub-or-right, without-sub}
 use Rattle.formula.specs.Assignment.{Assignment, On}
 use Rattle.formula.specs.Formula.{Formula, truth, free, coincide}
 use Rattle.formula.specs.Least.{least, least-is, least-hit, least-miss}
 use Rattle.formula.specs.Ask.{Verdict, yes, no, freeMask, ask, Bounded, Entries, Smallest, bit-free, ask-some, ask-never, ask-word}
 use Rattle.formula.specs.Ask as Question
-use Rattle.formula.specs.Over.{over, Beside, blend, blend-on, blend-off, over-meets, over-all, over-misses, over-free, over-none, bounded-over}
+use Rattle.formula.specs.Over.{over, Beside, blend, blend-on, blend-off, over-meets, over-all, over-misses, over-free, bounded-over}
 use Rattle.formula.specs.Why.{reduce, why, always, always-every, every-always, reduce-sub, reduce-always, reduce-idle}
 use Rattle.formula.specs.Gauges.{unread, ours, possible, assured, fails, noAt, verdict, reason}
 
@@ -108,6 +108,11 @@ ask-over {n} {f} {mask} {values} E =
 
 -- ---- settings of the unread gauges, with the entries
 
+-- a bit that cannot be set
+off : (b : Bool) → (b ≡ true → ⊥) → b ≡ false
+off true h = absurd (h refl)
+off false h = refl
+
 module _ {n : ℕ} {f : Formula} (g : ℕ) {mask values : ℕ} (E : Entries n f mask values) where
   abbrev gs : ℕ
   gs = unread n f g mask
@@ -127,22 +132,10 @@ module _ {n : ℕ} {f : Formula} (g : ℕ) {mask values : ℕ} (E : Entries n f 
 
   -- on the entered variables it is the values, on the unread gauges z
   pub set-entered : (z : ℕ) → Sub z gs → On (bit mask) (bit (values + z)) (bit values)
-  set-entered z i k h = set-bit z k i ∙ rw (off (bit z k) (λ t. clash (bit mask k) h (bits-apart (unread-apart n f g mask) k (bits-sub i k t)))) (or-none (bit values k))
-    where
-      off : (b : Bool) → (b ≡ true → ⊥) → b ≡ false
-      off true h = absurd (h refl)
-      off false h = refl
-
-      or-none : (b : Bool) → (b || false) ≡ b
-      or-none true = refl
-      or-none false = refl
+  set-entered z i k h = set-bit z k i ∙ rw (off (bit z k) (λ t. clash (bit mask k) h (bits-apart (unread-apart n f g mask) k (bits-sub i k t)))) (or-false (bit values k))
 
   pub set-gauges : (z : ℕ) → Sub z gs → On (bit gs) (bit (values + z)) (bit z)
   set-gauges z i k h = set-bit z k i ∙ rw (off (bit values k) (λ t. clash (bit mask k) (bits-sub (E .valued) k t) (bits-apart (unread-apart n f g mask) k h)))
-    where
-      off : (b : Bool) → (b ≡ true → ⊥) → b ≡ false
-      off true h = absurd (h refl)
-      off false h = refl
 
   pub set-beside : (z : ℕ) → Sub z gs → Beside gs (bit (values + z)) (bit values)
   set-beside z i k h = set-bit z k i ∙ go (bit values k) (bit z k) (λ t. clash (bit gs k) (bits-sub i k t) h)
@@ -186,10 +179,6 @@ module _ {n : ℕ} {f : Formula} (g : ℕ) {mask values : ℕ} (E : Entries n f 
       (λ t. clash (bit (ours n f g mask) k)
       (ap (λ (x : ℕ). bit x k) (ours-rest n f g mask) ∙ bit-without (freeMask n f) (bitOr mask gs) k ∙ rw (bit-free (E .bounded) k ∙ p .0, bit-or mask gs k, m, t))
       (not-true (bit (ours n f g mask) k) (p .1)))
-    where
-      not-true : (b : Bool) → not b ≡ true → b ≡ false
-      not-true true h = sym h
-      not-true false h = refl
 
   -- an assignment that agrees with the entries is as good as its setting
   may-same : (σ : Assignment) → On (bit mask) σ (bit values) → truth may σ ≡ truth may (bit (values + gaugesIn σ))
@@ -347,10 +336,6 @@ module _ {n : ℕ} {f : Formula} (g : ℕ) {mask values : ℕ} (E : Entries n f 
 
       fits : (z : ℕ) → Sub z hidden → truth (possible n f g mask) (bit (values + z)) ≡ false → fails n f g mask values z ≡ true
       fits z i p = rw (sub-inside i, p)
-
-      not-true : (b : Bool) → not b ≡ true → b ≡ false
-      not-true true h = sym h
-      not-true false h = refl
 
       -- none fails: it would be assured
       reached : w < suc hidden

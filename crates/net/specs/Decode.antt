@@ -1,7 +1,7 @@
 -- The net of a sheet: frame k is node k, a range is a mask. Assumes nothing.
 use Prim.Native.Nat.{ℕ, _<_}
 use mathlib.Core.Path.{_≡_, refl, sym, _∙_, ap, ap₂, fun-ext}
-use mathlib.Core.Bool.{Bool, true, false, not, _&&_, _||_}
+use mathlib.Core.Bool.{Bool, true, false, not, _||_}
 use Rattle.words.specs.Mask.{rangeMask}
 use Rattle.formula.specs.Assignment.{Assignment, join, sweep}
 use Rattle.formula.specs.Formula.{Formula, truth, free}
@@ -10,7 +10,7 @@ use Rattle.sheet.specs.declared.Kind.{Kind}
 use Rattle.sheet.specs.declared.Kind.the-variants.{Never, Input, Not, And, Or, Exists, Forall, Gauge}
 use Rattle.sheet.specs.Frames.{formulaOf, formula-is}
 use Rattle.sheet.specs.Frames as Sheets
-use Rattle.formula.specs.Over.{Beside, over, over-free, over-same, over-range}
+use Rattle.formula.specs.Over.{over, over-free, over-range}
 use Rattle.net.specs.Net.{Node, Fixed, Reads, Flips, Joins, Binds, Net, build, meaning, value, frees, Fit, Ordered, meaning-is, upward}
 
 unfoldable pub nodeOfKind : Kind → Node

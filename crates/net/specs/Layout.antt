@@ -1,8 +1,8 @@
 -- A net as one list of words, which a run lends to every line: how many frames, the free variables of the last one, the gauges, the links of `link`, and two
 -- words a node. What can be read off the words is the net `packed`. Assumes nothing.
-use Prim.Native.Nat.{ℕ, zero, suc, _+_, _-_, _*_, _/_, _%_, _<_, _≤_}
+use Prim.Native.Nat.{ℕ, _+_, _-_, _*_, _/_, _%_, _<_, _≤_}
 use native.Mathlib.Omega.{arith}
-use mathlib.Core.Path.{_≡_, refl, sym, _∙_, ap, subst}
+use mathlib.Core.Path.{_≡_, _∙_, ap, subst}
 use mathlib.Core.Bool.{Bool, true, false, not, cond}
 use mathlib.Core.List.{List}
 use lib.ListN.{length, getD}
@@ -16,7 +16,7 @@ use Rattle.form.specs.Form as Sizes
 use Rattle.form.specs.declared.Form.{Form}
 use Rattle.form.specs.declared.Form.the-variants.{Narrow, Wide}
 use Rattle.formula.specs.Over.{over}
-use Rattle.net.specs.Net.{Node, Fixed, Reads, Flips, Joins, Binds, Net, nodeOf, node-fixed, node-reads, node-flips, node-joins, node-binds, build, meaning, Fit, Ordered, fit-at, at-node, at-reads, at-flips, at-joins, at-binds, Ranged, ranged-more, Clear, Distinct, bounded-net}
+use Rattle.net.specs.Net.{Node, Fixed, Reads, Flips, Joins, Binds, Net, nodeOf, node-fixed, node-reads, node-flips, node-joins, node-binds, build, meaning, Ordered, fit-at, at-node, at-reads, at-flips, at-joins, at-binds, Ranged, ranged-more, Distinct, bounded-net}
 
 -- word 0: how many frames the sheet has; they are the first nodes
 abbrev pub framesOf : List ℕ → ℕ

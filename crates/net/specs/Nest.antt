@@ -1,13 +1,13 @@
 -- One node replaced by one that stands for it: every node stands for what it was. A quantifier over one of its kind is one over both masks. Assumes nothing.
-use Prim.Native.Nat.{ℕ, _<_, _≤_}
+use Prim.Native.Nat.{ℕ, _<_}
 use native.Mathlib.Omega.{arith}
-use mathlib.Core.Path.{_≡_, refl, sym, _∙_, ap, ap₂}
+use mathlib.Core.Path.{_≡_, sym, ap, ap₂}
 use mathlib.Core.Bool.{Bool, true, false, not, _||_}
 use lib.Bits.{bitOr}
 use lib.Dec.{eqb}
 use borrow.Author.Tests.{eqb-true}
 use Rattle.words.specs.Logic.{by-bool}
-use Rattle.formula.specs.Assignment.{Assignment, join}
+use Rattle.formula.specs.Assignment.{join}
 use Rattle.formula.specs.Formula.{Formula, truth, free}
 use Rattle.formula.specs.Over.{over-over, over-over-free}
 use Rattle.net.specs.Net.{Node, Fixed, Reads, Flips, Joins, Binds, Net, build, meaning, Fit, Ordered, meaning-is, fit-at, at-node, at-binds, replace, replace-here, replace-other, ordered-replace, upward}

@@ -2,17 +2,16 @@
 use Prim.Native.Nat.{ℕ, zero, suc, _<_, _≤_}
 use native.Mathlib.Omega.{arith}
 use mathlib.Core.Path.{_≡_, refl, sym, _∙_, ap, ap₂, subst}
-use mathlib.Core.Bool.{Bool, true, false, not, cond, _&&_, _||_}
+use mathlib.Core.Bool.{Bool, true, false, cond}
 use lib.Dec.{eqb, ltb}
 use borrow.Author.Tests.{eqb-true, eq-eqb, ne-eqb, lt-ltb, le-ltb}
-use Rattle.words.specs.Logic.{by-bool, clash, tests, and-both}
-use Rattle.words.specs.Word.{bit}
+use Rattle.words.specs.Logic.{by-bool}
 use Rattle.words.specs.Mask.{Apart}
-use Rattle.formula.specs.Assignment.{Assignment, join, On}
-use Rattle.formula.specs.Formula.{Formula, never, input, neg, gate, truth, free, coincide}
+use Rattle.formula.specs.Assignment.{Assignment}
+use Rattle.formula.specs.Formula.{Formula, never, input, neg, gate, truth, free}
 use Rattle.formula.specs.Ask.{Bounded}
 use Rattle.formula.specs.FreeMask.{bounded-never, bounded-input, bounded-neg, bounded-gate}
-use Rattle.formula.specs.Over.{over, over-free, bounded-over}
+use Rattle.formula.specs.Over.{over, bounded-over}
 
 -- A gate and a quantifier carry the truth that decides them, as in formulas: `Joins false` is AND, `Binds true` is EXISTS.
 pub data Node : Type 0 where

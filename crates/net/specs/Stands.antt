@@ -1,11 +1,11 @@
 -- g stands for f: the same truth under every assignment, and the same free variables. Reasons and tables of the one are those of the other. Assumes nothing.
-use Prim.Native.Nat.{ℕ, _<_}
+use Prim.Native.Nat.{ℕ}
 use mathlib.Core.Path.{_≡_, refl, sym, _∙_, ap}
-use mathlib.Core.Bool.{Bool, true, false, not, _&&_}
+use mathlib.Core.Bool.{Bool, not, _&&_}
 use Rattle.words.specs.Logic.{by-bool, and-both}
 use Rattle.words.specs.Word.{bit}
 use Rattle.words.specs.Mask.{Apart, without, bits-apart, bit-without}
-use Rattle.formula.specs.Assignment.{Assignment, On}
+use Rattle.formula.specs.Assignment.{Assignment}
 use Rattle.formula.specs.Formula.{Formula, truth, free}
 use Rattle.formula.specs.Reason.{Explains}
 use Rattle.formula.specs.Over.{over, over-free, over-same, over-meets, over-misses, over-all, blend, blend-on, blend-off}

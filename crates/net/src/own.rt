@@ -1,5 +1,4 @@
 // The quantifiers of a question, behind the frames: the first over the last frame, each other one over the one before it. There they are nodes like any other.
-ghost use mathlib.Core.Path.{_≡_};
 ghost use Prim.Native.Nat.{_<_};
 ghost use Rattle.net.specs.Layout.{Ground, framesOf};
 ghost use Rattle.net.specs.Own.{Chosen, Forgotten};

@@ -8,9 +8,9 @@ use mathlib.Core.Bool.{Bool, true, false, not, _&&_}
 use mathlib.Core.List.{List}
 use lib.Bits.{bitAnd}
 use Rattle.words.specs.Logic.{clash}
-use Rattle.words.specs.Word.{bit, bit-none}
-use Rattle.words.specs.Mask.{Sub, Apart, without, bit-without, sub-bits, bits-apart, apart-bits, bits-sub, none-sub, and-sub, bits-masked, sub-lt, sub-refl, sub-trans, or-sum, or-sub, without-sub, without-apart, apart-sub, apart-sym}
-use Rattle.cube.specs.Cube.{Made, made-sub, made-same}
+use Rattle.words.specs.Word.{bit}
+use Rattle.words.specs.Mask.{Sub, Apart, without, bit-without, sub-bits, bits-apart, bits-sub, and-sub, bits-masked, sub-lt, sub-refl, sub-trans, or-sum, or-sub, without-sub, without-apart, apart-sub, apart-sym}
+use Rattle.cube.specs.Cube.{Made, made-same}
 use Rattle.formula.specs.Assignment.{Assignment}
 use Rattle.formula.specs.Formula.{Formula, truth}
 use Rattle.formula.specs.Reason.{Explains, explains-truth}
@@ -30,8 +30,8 @@ use Rattle.net.specs.Layout.{netForm, framesOf, freeOf, formulaAt, val}
 use Rattle.net.specs.Sheet.{net-form}
 use Rattle.search.specs.Search.{Found, Lost}
 use Rattle.solver.specs.Contract.{last, root, Ready, TablesGrown, Same}
-use Rattle.solver.specs.Across.{found-stands, lost-stands, root-stands, root-bounded, bit-opens, tables-net, grown-sheet}
-use Rattle.solver.specs.Question.{asked, Asking}
+use Rattle.solver.specs.Across.{found-stands, lost-stands, root-stands, root-bounded, bit-opens, grown-sheet}
+use Rattle.solver.specs.Question.{asked}
 
 -- document 01's promise after such an ASK: the table concerned is full, or holds a record of the last frame that agrees with the word (yes), or with the
 -- entries and with a mask inside the entered variables (no)
@@ -72,44 +72,6 @@ module _ {s : Sheet} {net : List ℕ} {mask values : ℕ} {u : List ℕ} {cu : �
 
   pub ready-bounded : Bounded (variables s) (root s)
   ready-bounded = root-bounded (R .net-of) ready-some
-
-  -- a question for the truth t over a cube m, w of entered variables
-  pub ready-asking : (t : ℕ) {f loose m w : ℕ} → 0 < t → t < 3 → f ≡ freeOf net → loose ≡ without f m → Sub m mask → Sub w m
-      → Asking s net t loose 0 0 m w u cu o co
-  ready-asking t {f} {loose} {m} a b e l i j = record {
-    masks = record {
-      net-of = R .net-of;
-      frames = ready-some;
-      target-some = a;
-      target-low = b;
-      loose-free = rw is (without-sub (freeOf net) m);
-      all-free = none-sub (freeOf net);
-      some-free = none-sub (freeOf net);
-      some-all = apart-none 0;
-      inner-loose = apart-none loose;
-    };
-    assigned = sub-trans i (R .entered);
-    valued = j;
-    fixed = rw is (without-apart (freeOf net) m);
-    whole = λ x h g. go (bit (freeOf net) x) (bit m x) h (sym (bit-without (freeOf net) m x) ∙ ap (λ (z : ℕ). bit z x) (sym is) ∙ g);
-    tables = tables-net (R .net-of) (R .tables);
-  }
-    where
-      is : loose ≡ without (freeOf net) m
-      is = rw e at l
-
-      apart-none : (m : ℕ) → Apart 0 m
-      apart-none m = apart-bits 0 m (λ k h. clash (bit 0 k) h (bit-none k))
-
-      go : (p q : Bool) → p ≡ true → (p && not q) ≡ false → q ≡ true
-      go true true e f = refl
-      go true false e f = sym f
-      go false q e f = clash false e refl
-
-  -- over the entries
-  pub entered-asking : (t : ℕ) {f loose m w : ℕ} → 0 < t → t < 3 → f ≡ freeOf net → loose ≡ without f mask → Made mask values m w
-      → Asking s net t loose 0 0 m w u cu o co
-  entered-asking t a b e l M = ready-asking t a b e (rw (M .mask) l) (rw (M .mask) (sub-refl mask)) (made-sub M)
 
   -- what is found or lost is so of the sheet
   pub ready-found : {v : Bool} {loose w word r : ℕ} → Found (asked net 0 0) v loose w word r → Found (root s) v loose w word r

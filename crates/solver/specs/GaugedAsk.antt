@@ -1,20 +1,20 @@
 -- ASK with gauges: a setting of the unread gauges that fails is looked for first; where there is none, the rest is chosen with those gauges at 0.
 -- Assumes nothing.
-use Prim.Native.Nat.{ℕ, _+_, _-_, _%_, _<_}
+use Prim.Native.Nat.{ℕ, _+_, _-_, _%_}
 use native.Mathlib.Omega.{arith}
 use native.Mathlib.Nat.{add-zero}
-use mathlib.Core.Path.{_≡_, refl, sym, _∙_, ap, ap₂, subst}
-use mathlib.Core.Bool.{Bool, true, false, not, _&&_, and-true}
+use mathlib.Core.Path.{_≡_, refl, sym, _∙_, ap}
+use mathlib.Core.Bool.{Bool, true, false, not, _&&_}
 use mathlib.Core.List.{List}
 use lib.Bits.{bitAnd, bitOr, or-zero-r}
 use Rattle.words.specs.Logic.{by-bool, clash, or-false}
 use Rattle.words.specs.Word.{bit, bit-and, bit-or, bit-none}
-use Rattle.words.specs.Mask.{Sub, Apart, without, bit-without, sub-bits, bits-sub, bits-apart, apart-bits, none-sub, sub-refl, sub-trans, sub-or-left, or-sub, or-sum, or-apart, apart-sub, apart-sym, agree-split, agree-sum}
-use Rattle.cube.specs.Cube.{Made, made-sub, made-same}
+use Rattle.words.specs.Mask.{Sub, without, bit-without, sub-bits, bits-apart, apart-bits, none-sub, sub-trans, sub-or-left, or-sub, or-sum, or-apart, apart-sub, apart-sym, agree-split, agree-sum}
+use Rattle.cube.specs.Cube.{Made, made-sub}
 use Rattle.formula.specs.Formula.{Formula, truth}
 use Rattle.formula.specs.Reason.{Explains, explains-truth}
 use Rattle.formula.specs.Over.{over, over-none}
-use Rattle.formula.specs.Ask.{Verdict, yes, Entries, freeMask, ask}
+use Rattle.formula.specs.Ask.{yes, Entries, freeMask, ask}
 use Rattle.formula.specs.Ask as Question
 use Rattle.formula.specs.Gauges.{unread, ours, possible, assured, noAt, verdict}
 use Rattle.formula.specs.GaugeLaws.{unread-free, unread-apart, ours-free, ours-entered, ours-unread, may-free, set-entered, possible-ask, every-assured, assured-every, verdict-yes, verdict-no, verdict-plain}
@@ -23,7 +23,7 @@ use Rattle.form.specs.declared.Form.{Form}
 use Rattle.sheet.specs.Fields.{Sheet, frames, variables}
 use Rattle.sheet.specs.Frames.{formula}
 use Rattle.sheet.specs.Rules.{gauges}
-use Rattle.records.specs.Table.{Kept, grown-trans}
+use Rattle.records.specs.Table.{grown-trans}
 use Rattle.records.specs.Both.{tables-then}
 use Rattle.net.specs.Stands.{Stands, over-stands, mask-below}
 use Rattle.net.specs.Layout.{netForm, framesOf, freeOf, gaugesOf, formulaAt, val}

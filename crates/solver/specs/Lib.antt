@@ -3,6 +3,7 @@ pub mod Across
 pub mod Question
 pub mod QuestionLaws
 pub mod Ask
+pub mod Aim
 pub mod GaugedAsk
 pub mod Why
 pub mod WhyLaws

@@ -2,22 +2,22 @@
 use Prim.Native.Nat.{ℕ, _+_, _-_, _≤_, _<_}
 use native.Mathlib.Omega.{arith}
 use native.Mathlib.Nat.{add-zero}
-use mathlib.Core.Path.{_≡_, refl, sym, _∙_, ap, subst}
+use mathlib.Core.Path.{_≡_, sym, _∙_, ap, subst}
 use mathlib.Core.Bool.{Bool, true, false, not}
 use mathlib.Core.List.{List}
 use lib.ListN.{length, replicate, length-replicate}
 use lib.Bits.{bitOr, or-zero-r}
-use Rattle.words.specs.Logic.{clash, and-both}
+use Rattle.words.specs.Logic.{clash, and-both, not-true}
 use Rattle.words.specs.Word.{bit, bit-or, bit-none}
-use Rattle.words.specs.Mask.{Sub, Apart, without, without-sum, apart-bits, apart-sub, apart-sym, sub-or-right}
+use Rattle.words.specs.Mask.{Apart, without, without-sum, apart-bits, apart-sub, apart-sym, sub-or-right}
 use Rattle.formula.specs.Formula.{Formula, free}
 use Rattle.formula.specs.Over.{over, over-free, over-none}
 use Rattle.form.specs.declared.Form.{Form}
 use Rattle.sheet.specs.Fields.{Sheet}
 use Rattle.records.specs.Both.{TablesGrown}
-use Rattle.net.specs.Net.{Binds, at-binds}
+use Rattle.net.specs.Net.{at-binds}
 use Rattle.net.specs.Stands.{Stands, stands-refl}
-use Rattle.net.specs.Layout.{netWords, netForm, form-same, framesOf, freeOf, packed, formulaAt, Ground, HasNode, Is, val, decides}
+use Rattle.net.specs.Layout.{netWords, netForm, form-same, framesOf, formulaAt, Ground, HasNode, Is, val, decides}
 use Rattle.net.specs.Sheet.{net-form}
 use Rattle.net.specs.Own.{Chosen, Stacked}
 use Rattle.net.specs.OwnLaws.{stacked-none, stacked-more, chosen-same, chosen-node, chosen-formula, is-chosen, is-chosen-val}
@@ -130,11 +130,7 @@ module _ {s : Sheet} {net : List ℕ} {t loose all some m w : ℕ} {u : List ℕ
       let r = and-both (free f x) (not (bit some x)) (sym (over-free true some f x) ∙ q .0) in
       A .whole x
       (bit-opens (A .masks .net-of) (A .masks .frames) x ∙ sym (root-stands (A .masks .net-of) (A .masks .frames) .reads x) ∙ r .0)
-      (bit-or (bitOr some all) loose x ∙ rw (bit-or some all x, off (bit some x) (r .1), off (bit all x) (q .1), off (bit loose x) (p .1)))
-    where
-      off : (b : Bool) → not b ≡ true → b ≡ false
-      off true h = sym h
-      off false h = refl
+      (bit-or (bitOr some all) loose x ∙ rw (bit-or some all x, not-true (bit some x) (r .1), not-true (bit all x) (q .1), not-true (bit loose x) (p .1)))
 
   same-form : netForm net′ ≡ netForm net
   same-form = form-same net net′ (P .stacked .long)

@@ -2,45 +2,32 @@
 use Prim.Native.Nat.{ℕ, suc, _-_, _≤_, _<_, _^_}
 use native.Mathlib.Omega.{arith}
 use mathlib.Core.Path.{_≡_, refl, sym, _∙_, ap}
-use mathlib.Core.Bool.{Bool, true, false, not, _&&_, _||_}
+use mathlib.Core.Bool.{true, false, not}
 use mathlib.Core.List.{List}
 use lib.Bits.{bitOr}
 use lib.Dec.{eqb}
 use borrow.Author.Tests.{eqb-true}
-use Rattle.words.specs.Logic.{by-bool, clash, not-not, or-false}
-use Rattle.words.specs.Word.{bit, bit-or, bit-none, bit-pow}
-use Rattle.words.specs.Mask.{Sub, Apart, without, bit-without, sub-bits, sub-refl, bits-apart, bits-sub, sub-trans, sub-without, none-sub, without-sub, without-apart, or-apart, apart-sub, apart-sym, apart-bits}
+use Rattle.words.specs.Logic.{by-bool, clash, not-not}
+use Rattle.words.specs.Word.{bit, bit-pow}
+use Rattle.words.specs.Mask.{Sub, Apart, without, sub-refl, bits-apart, bits-sub, sub-trans, sub-without, without-sub, without-apart, apart-sub, apart-sym, apart-bits}
 use Rattle.cube.specs.Cube.{Freed, freed-sub, freed-one}
-use Rattle.formula.specs.Assignment.{Assignment, On}
-use Rattle.formula.specs.Formula.{Formula, free}
+use Rattle.formula.specs.Assignment.{On}
+use Rattle.formula.specs.Formula.{Formula}
 use Rattle.formula.specs.Reason.{Explains, explains-truth, explains-set}
-use Rattle.formula.specs.Over.{over, over-free, over-none, bounded-over}
-use Rattle.formula.specs.Ask.{Bounded}
+use Rattle.formula.specs.Over.{over}
 use Rattle.formula.specs.Why.{reduce, explains-always, fails-always, reduce-drop, reduce-keep, reduce-skip}
-use Rattle.form.specs.Form as Sizes
 use Rattle.form.specs.Form.{few-variables}
 use Rattle.sheet.specs.Fields.{Sheet, variables}
 use Rattle.records.specs.Both.{tables-same, tables-then}
-use Rattle.net.specs.Stands.{Stands, over-stands}
 use Rattle.net.specs.Layout.{netForm, freeOf, val, val-flip}
 use Rattle.net.specs.Sheet.{net-form}
 use Rattle.search.specs.Search.{Found, Lost}
-use Rattle.imply.specs.Halves.{apart-inside, bit-plus, off-mask, or-none}
-use Rattle.solver.specs.Contract.{root, Ready, TablesGrown}
-use Rattle.solver.specs.Across.{found-stands, lost-stands, root-stands, bit-opens, tables-net}
+use Rattle.imply.specs.Halves.{bit-plus, off-mask, or-none}
+use Rattle.solver.specs.Contract.{Ready, TablesGrown}
+use Rattle.solver.specs.Across.{found-stands, lost-stands}
 use Rattle.solver.specs.Question.{asked, Asking}
-use Rattle.solver.specs.Ask.{ready-some, ready-bounded}
-
--- what is asked of a sheet: that for every setting of `all` some setting of `some` makes it hold
-abbrev pub askedOf : Sheet → ℕ → ℕ → Formula
-askedOf s all some = over false all (over true some (root s))
-
--- the masks of an aim are free variables, apart from each other and from m
-pub record Aimed (net : List ℕ) (all some m : ℕ) : Type 0 where
-  pub all-free : Sub all (freeOf net)
-  pub some-free : Sub some (freeOf net)
-  pub some-all : Apart some all
-  pub fixed : Apart (bitOr some all) m
+use Rattle.form.specs.Form as Sizes
+use Rattle.solver.specs.Aim.{askedOf, Aimed, aimed-stands, aimed-bounded, aimed-inside, aimed-asking, off-cube}
 
 -- what is left of w is the cube m, y, inside which the variables of r force the truth v of φ
 pub record Held (φ : Formula) (v w m y r : ℕ) : Type 0 where
@@ -54,89 +41,6 @@ pub record Turned (n : ℕ) (φ : Formula) (v m y r x m′ y′ r′ : ℕ) : Ty
   pub valued : Sub y m → Sub y′ m′
   pub held : (w : ℕ) → Held φ v w m y r → Held φ v w m′ y′ r′
   pub step : (w : ℕ) → Held φ v w m y r → reduce n φ w (val v) (suc x) m ≡ reduce n φ w (val v) x m′
-
--- ---- an aim, over fewer variables, and without quantifiers
-
-pub aimed-less : {net : List ℕ} {all some m m′ : ℕ} → Aimed net all some m → Sub m′ m → Aimed net all some m′
-aimed-less A i = record { all-free = A .all-free; some-free = A .some-free; some-all = A .some-all; fixed = apart-sub (A .fixed) i }
-
-none-apart : (a : ℕ) → Apart 0 a
-none-apart a = apart-bits 0 a (λ k e. clash (bit 0 k) e (bit-none k))
-
-pub aimed-none : (net : List ℕ) (m : ℕ) → Aimed net 0 0 m
-aimed-none net m = record { all-free = none-sub (freeOf net); some-free = none-sub (freeOf net); some-all = none-apart 0; fixed = or-apart (none-apart m) (none-apart m) }
-
-pub asked-none : (s : Sheet) → askedOf s 0 0 ≡ root s
-asked-none s = over-none false (over true 0 (root s)) ∙ over-none true (root s)
-
--- ---- what is asked of a sheet that is ready, and of its net
-
-module _ {s : Sheet} {net : List ℕ} {m y : ℕ} {u : List ℕ} {cu : ℕ} {o : List ℕ} {co : ℕ} (R : Ready s net m y u cu o co)
-    {all some : ℕ} (A : Aimed net all some m) where
-  pub aimed-stands : Stands (askedOf s all some) (asked net all some)
-  aimed-stands = over-stands false all (over-stands true some (root-stands (R .net-of) (ready-some R)))
-
-  aimed-bounded : Bounded (variables s) (askedOf s all some)
-  aimed-bounded = bounded-over false all (bounded-over true some (ready-bounded R))
-
-  -- it hangs on the free variables that are in neither mask
-  aimed-free : (k : ℕ) → free (askedOf s all some) k ≡ bit (without (freeOf net) (bitOr some all)) k
-  aimed-free k =
-      over-free false all (over true some (root s)) k
-      ∙ ap (λ (b : Bool). b && not (bit all k)) (over-free true some (root s) k ∙ ap (λ (b : Bool). b && not (bit some k)) (sym (bit-opens (R .net-of) (ready-some R) k)))
-      ∙ go (bit (freeOf net) k) (bit some k) (bit all k)
-      ∙ sym (bit-without (freeOf net) (bitOr some all) k ∙ ap (λ (b : Bool). bit (freeOf net) k && not b) (bit-or some all k))
-    where
-      go : (a b c : Bool) → (a && not b) && not c ≡ a && not (b || c)
-      go true true c = refl
-      go true false c = refl
-      go false b c = refl
-
-  -- the variables that it hangs on are q, and those of q off m′ are loose
-  module _ {q loose m′ : ℕ} (eq : q ≡ without (freeOf net) (bitOr some all)) (el : loose ≡ without q m′) where
-    off-cube : Apart loose m′
-    off-cube = rw el (without-apart q m′)
-
-    -- a reason that avoids the loose variables lies in m′
-    pub aimed-inside : {r : ℕ} {v : Bool} {w : Assignment} → Explains (askedOf s all some) v (bit r) w → Apart r loose → Sub r m′
-    aimed-inside {r} E a = sub-bits r m′ (λ k e.
-        go (bit q k) (bit m′ k) (ap (λ (x : ℕ). bit x k) eq ∙ sym (aimed-free k) ∙ E .inside k e) (sym (bit-without q m′ k) ∙ ap (λ (x : ℕ). bit x k) (sym el) ∙ bits-apart a k e))
-      where
-        go : (a b : Bool) → a ≡ true → (a && not b) ≡ false → b ≡ true
-        go true true e f = refl
-        go true false e f = sym f
-        go false b e f = clash false e refl
-
-    -- the question for its truth t over a cube m′, w of variables of m
-    pub aimed-asking : (t : ℕ) {w : ℕ} → 0 < t → t < 3 → Sub m′ m → Sub w m′ → Asking s net t loose all some m′ w u cu o co
-    aimed-asking t a b i j = record {
-      masks = record {
-        net-of = R .net-of;
-        frames = ready-some R;
-        target-some = a;
-        target-low = b;
-        loose-free = rw (el, eq) (sub-trans (without-sub (without (freeOf net) (bitOr some all)) m′) (without-sub (freeOf net) (bitOr some all)));
-        all-free = A .all-free;
-        some-free = A .some-free;
-        some-all = A .some-all;
-        inner-loose = rw (el, eq) (apart-sym (apart-inside (without-sub (without (freeOf net) (bitOr some all)) m′) (without-apart (freeOf net) (bitOr some all))));
-      };
-      assigned = sub-trans i (R .entered);
-      valued = j;
-      fixed = or-apart (apart-sub (A .fixed) i) off-cube;
-      whole = λ x f e.
-          let p = or-false (bit (bitOr some all) x) (bit loose x) (sym (bit-or (bitOr some all) loose x) ∙ e) in
-          go (bit (freeOf net) x) (bit (bitOr some all) x) (bit m′ x) f (p .0)
-          (sym (ap (λ (z : ℕ). bit z x) el ∙ bit-without q m′ x
-          ∙ ap (λ (d : Bool). d && not (bit m′ x)) (ap (λ (z : ℕ). bit z x) eq ∙ bit-without (freeOf net) (bitOr some all) x)) ∙ p .1);
-      tables = tables-net (R .net-of) (R .tables);
-    }
-      where
-        go : (a b c : Bool) → a ≡ true → b ≡ false → ((a && not b) && not c) ≡ false → c ≡ true
-        go true true c e f h = clash true refl f
-        go true false true e f h = refl
-        go true false false e f h = sym h
-        go false b c e f h = clash false e refl
 
 -- ---- one turn
 

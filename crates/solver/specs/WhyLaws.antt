@@ -4,28 +4,28 @@ use native.Mathlib.Omega.{arith}
 use mathlib.Core.Path.{_≡_, refl, sym, _∙_, ap}
 use mathlib.Core.Bool.{Bool, true, false}
 use mathlib.Core.List.{List}
-use lib.Bits.{bitAnd, bitOr, or-zero-r, and-zero-r}
 use borrow.Author.Tests.{ne-eqb}
 use Rattle.words.specs.Word.{bit}
-use Rattle.words.specs.Mask.{Sub, Apart, without, sub-bits, sub-refl, bits-apart, without-sum, without-apart, or-apart, apart-sub, apart-sym}
+use Rattle.words.specs.Mask.{Sub, Apart, without, sub-bits, sub-refl, bits-apart, without-apart, or-apart, apart-sub, apart-sym}
 use Rattle.cube.specs.Cube.{Made, made-sub, made-same}
-use Rattle.formula.specs.Formula.{Formula}
+use Rattle.formula.specs.Formula.{Formula, free}
 use Rattle.formula.specs.Reason.{Explains, explains-truth, explains-set}
 use Rattle.formula.specs.Why.{reduce, why, startMask, startWord}
-use Rattle.formula.specs.Gauges.{possible, assured}
-use Rattle.formula.specs.GaugeLaws.{unread-free, unread-apart, ours-free, ours-entered, ours-unread, verdict-holds, assured-entered, reason-plain, reason-is}
 use Rattle.sheet.specs.Fields.{Sheet, variables}
-use Rattle.sheet.specs.Rules.{gauges}
 use Rattle.net.specs.Stands.{mask-decided, mask-undecided}
-use Rattle.net.specs.Layout.{freeOf, gaugesOf, val}
+use Rattle.net.specs.Layout.{freeOf, val, gaugesOf}
 use Rattle.search.specs.Search.{Found, Lost}
-use Rattle.imply.specs.Halves.{bit-plus, off-sub, or-none}
+use Rattle.imply.specs.Halves.{bit-plus, or-none, off-sub}
 use Rattle.solver.specs.Contract.{root, Ready, TablesGrown, verdictOf, reasonOf, unreadOf, oursOf, Same}
 use Rattle.solver.specs.Across.{found-stands, lost-stands}
-use Rattle.solver.specs.Question.{asked, Asking}
+use Rattle.solver.specs.Question.{asked}
 use Rattle.solver.specs.Ask.{reason-free, word-free, ask-found, ask-lost}
+use Rattle.formula.specs.Gauges.{possible, assured}
+use Rattle.formula.specs.GaugeLaws.{unread-free, unread-apart, ours-free, ours-entered, ours-unread, verdict-holds, assured-entered, reason-plain, reason-is}
+use Rattle.sheet.specs.Rules.{gauges}
 use Rattle.solver.specs.GaugedAsk.{ready-entries}
-use Rattle.solver.specs.Why.{askedOf, Aimed, Held, aimed-none, asked-none, aimed-stands, aimed-inside, aimed-asking}
+use Rattle.solver.specs.Aim.{askedOf, Aimed, aimed-none, asked-none, aimed-stands, aimed-inside, plain-reach}
+use Rattle.solver.specs.Why.{Held}
 
 -- a cube of free variables to start from, with the tables that the search left
 ready-from : {s : Sheet} {net : List ℕ} {mask values : ℕ} {u : List ℕ} {cu : ℕ} {o : List ℕ} {co : ℕ} → Ready s net mask values u cu o co
@@ -41,17 +41,11 @@ ready-entered R M k = ready-from R (rw (M .mask) (R .entered)) (made-sub M) k
 
 module _ {s : Sheet} {net : List ℕ} {mask values : ℕ} {u : List ℕ} {cu : ℕ} {o : List ℕ} {co : ℕ} (R : Ready s net mask values u cu o co)
     {f loose m w : ℕ} (ef : f ≡ freeOf net) (el : loose ≡ without f mask) (M : Made mask values m w) where
-  plain-reach : f ≡ without (freeOf net) (bitOr 0 0)
-  plain-reach = omega (arith, ef, without-sum (freeOf net) (bitOr 0 0), ap (bitAnd (freeOf net)) (or-zero-r 0) ∙ and-zero-r (freeOf net))
-
   start-loose : loose ≡ without (freeOf net) mask
   start-loose = rw ef at el
 
   start-values : w ≡ values
   start-values = made-same M (R .valued)
-
-  pub plain-asking : Asking s net 2 loose 0 0 m w u cu o co
-  plain-asking = aimed-asking R (aimed-none net mask) plain-reach (rw (M .mask) el) 2 (omega arith) (omega arith) (rw (M .mask) (sub-refl mask)) (made-sub M)
 
   -- a yes: the free variables, with the word that was found
   module _ {word r n y : ℕ} (h : Found (asked net 0 0) (val 2) loose w word r) (N : Made f word n y) where
@@ -83,7 +77,7 @@ module _ {s : Sheet} {net : List ℕ} {mask values : ℕ} {u : List ℕ} {cu : �
 
     pub held-no : Held (askedOf s 0 0) 1 w m w r
     unfolding val
-    held-no = record { same = λ k e. refl; explains = lost .explains; inside = rw (M .mask) (aimed-inside R (aimed-none net mask) plain-reach el (lost .explains) (lost .apart)) }
+    held-no = record { same = λ k e. refl; explains = lost .explains; inside = rw (M .mask) (aimed-inside R (aimed-none net mask) (plain-reach R ef el M) el (lost .explains) (lost .apart)) }
 
     pub why-no : {m′ : ℕ} → m′ ≡ reduce (variables s) (askedOf s 0 0) w (val 1) (variables s) m → Same (why (variables s) (root s) mask values) false m′
     unfolding why startMask startWord val

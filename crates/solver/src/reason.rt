@@ -19,7 +19,8 @@ ghost use Rattle.form.specs.Form as Sizes;
 ghost use Rattle.net.specs.Layout.{netForm, freeOf, gaugesOf, val};
 ghost use Rattle.sheet.specs.Fields.{Sheet, variables};
 ghost use Rattle.solver.specs.Contract.{root, Ready, TablesGrown, reasonOf, Same};
-ghost use Rattle.solver.specs.Why.{askedOf, Aimed, Held, Turned};
+ghost use Rattle.solver.specs.Aim.{askedOf, Aimed};
+ghost use Rattle.solver.specs.Why.{Held, Turned};
 
 // What a reason is for: the truth v of what a question with these `all` and `some` asks.
 struct Aim {

@@ -4,8 +4,9 @@ use mathlib.Core.Path.{_∙_}
 use borrow.Author.Needs.{needs}
 use Rattle.records.specs.Both.{tables-then}
 use Rattle.solver.specs.Ask.{ready-grown}
-use Rattle.solver.specs.Why.{aimed-none}
-use Rattle.solver.specs.WhyLaws.{ready-entered, plain-asking, ready-yes, held-yes, why-yes, held-no, why-no}
+use Rattle.solver.specs.Aim.{aimed-none}
+use Rattle.solver.specs.Aim.{plain-asking}
+use Rattle.solver.specs.WhyLaws.{ready-entered, ready-yes, held-yes, why-yes, held-no, why-no}
 use Rattle.solver.proofs.reason.plain.Statement.{statement}
 use Rattle.solver.proofs.reason.plain.Tie as tie
 

@@ -3,7 +3,8 @@ use native.Mathlib.Omega.{arith}
 use mathlib.Core.Path.{ap}
 use lib.ListN.{length}
 use borrow.Author.Needs.{needs}
-use Rattle.solver.specs.Why.{aimed-less, Turning, turning-start, turning-next, turning-end}
+use Rattle.solver.specs.Aim.{aimed-less}
+use Rattle.solver.specs.Why.{Turning, turning-start, turning-next, turning-end}
 use Rattle.solver.proofs.reason.reduced.Statement.{statement}
 use Rattle.solver.proofs.reason.reduced.Tie as tie
 

@@ -1,5 +1,6 @@
 -- `solver::verdict::chosen` meets its contract: the search of the last frame over the free variables that are not entered. Assumes nothing.
-use Rattle.solver.specs.Ask.{entered-asking, answered-yes, answered-no}
+use Rattle.solver.specs.Aim.{plain-asking}
+use Rattle.solver.specs.Ask.{answered-yes, answered-no}
 use Rattle.search.specs.SearchLaws.{tables-fit}
 use Rattle.proxies.specs.KeptLaws.{low-fits}
 use native.Mathlib.Omega.{arith}
@@ -26,7 +27,7 @@ of-requires : tie.Need-of-requires
 of-requires c κs = search needs
 
 solve-requires : tie.Need-solve-requires
-solve-requires c κs = ((c .before .before .before .before .before .before .before .before .before .before .before .before .before .before .pre) .0, entered-asking ((c .before .before .before .before .before .before .before .before .before .before .before .before .before .before .pre) .1) 2 (omega arith) (omega arith) ((c .before .before .before .before .before .before .before .free) .ensures) ((c .before .before .before .without) .ensures) ((c .before .before .of) .ensures))
+solve-requires c κs = ((c .before .before .before .before .before .before .before .before .before .before .before .before .before .before .pre) .0, plain-asking ((c .before .before .before .before .before .before .before .before .before .before .before .before .before .before .pre) .1) ((c .before .before .before .before .before .before .before .free) .ensures) ((c .before .before .before .without) .ensures) ((c .before .before .of) .ensures))
 
 cast-ensure : tie.Need-cast-ensure
 cast-ensure c = omega (arith, (c .before .before .before .before .before .before .before .before .before .before .before .before .before .before .before .frames) .ensures, (c .before .before .before .before .before .before .before .before .before .before .before .before .before .before .before .before .before .before .before .before .before .before .before .before .pre) .1 .net-of .ground .room, (c .before .before .before .before .before .before .before .before .before .before .before .before .before .before .before .before .before .before .before .before .before .before .before .before .pre) .1 .net-of .ground .few)
