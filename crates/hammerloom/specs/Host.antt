@@ -9,9 +9,9 @@ use Rattle.form.specs.Form as Sizes
 use Rattle.form.specs.declared.Form.{Form}
 use Rattle.form.specs.declared.Form.the-variants.{Narrow, Wide}
 use Rattle.sheet.specs.Fields.{Sheet}
-use Rattle.session.specs.Model.{lines, answers}
-use Rattle.run.specs.Run.{refusal, book, Run}
-use Rattle.run.specs.Bounds.{place-below}
+use Rattle.model.specs.Model.{lines, answers}
+use Rattle.certificate.specs.Run.{refusal, book, Run}
+use Rattle.certificate.specs.Bounds.{place-below}
 
 -- a refusal's number and place in one number, by the form
 abbrev pub resultOf : Form → ℕ → ℕ → ℕ

@@ -16,7 +16,7 @@ use Rattle.net.specs.Layout.{packed, formulaAt, val}
 use Rattle.judge.specs.Judge.{Judged}
 use Rattle.judge.specs.JudgeLaws.{judged-more}
 use Rattle.imply.specs.Halves.{apart-inside, bit-plus, or-none, off-sub}
-use Rattle.imply.specs.Posed.{Found, Lost, Free, Covers, Posed}
+use Rattle.imply.specs.Posed.{Met, Lost, Free, Covers, Posed}
 use Rattle.imply.specs.Required.{Forcing}
 use Rattle.imply.specs.Gather.{Gathered}
 
@@ -101,17 +101,17 @@ module _ {net : List ℕ} {a t loose m w X U rest m′ w′ : ℕ} {whys : List 
           ∙ sym (bit-plus (apart-sub (P .clear) i) k)
           ∙ F .each k q .forces (bit (w + z)) (agrees (F .each k q .assigned) i) e
 
-  pub forced-found : {word r : ℕ} → Found (formulaAt net a) (val t) rest w′ word r → Found (formulaAt net a) (val t) loose w word r
-  forced-found {word} h =
+  pub forced-met : {free word r : ℕ} → Met (formulaAt net a) (val t) free rest w′ word r → Met (formulaAt net a) (val t) free loose w word r
+  forced-met {word = word} h =
       record {
         explains = h .explains;
         chosen = h .chosen + U;
         inside = rw (← or-sum apart-chosen) (or-sub (sub-trans (h .inside) rest-sub) U-loose);
         is = omega (arith, h .is, w-sum);
-        least = λ z i l. by-value (val t) (truth (formulaAt net a) (bit (w + z)))
+        least = λ s z i l. by-value (val t) (truth (formulaAt net a) (bit (w + z)))
             (λ e.
             let u : w + z ≡ w′ + without z X = omega (arith, w-sum, without-sum z X, split i e) in
-            ap (λ (y : ℕ). truth (formulaAt net a) (bit y)) u ∙ h .least (without z X) (rw er (without-mono X i)) (omega (arith, u)))
+            ap (λ (y : ℕ). truth (formulaAt net a) (bit y)) u ∙ h .least (sub-trans rest-sub s) (without z X) (rw er (without-mono X i)) (omega (arith, u)))
             (λ e. e);
       }
     where

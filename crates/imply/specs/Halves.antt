@@ -15,12 +15,24 @@ use Rattle.cube.specs.Cube.{Fixed}
 use Rattle.formula.specs.Formula.{Formula, truth}
 use Rattle.formula.specs.Reason.{Explains}
 use Rattle.formula.specs.ReasonWord.{word-branch, word-skip}
-use Rattle.imply.specs.Posed.{Found, Lost, Free}
+use Rattle.imply.specs.Posed.{Found, Met, Lost, Free}
 
 -- ---- a value that is known
 
-pub found-known : {f : Formula} {v : Bool} {w r : ℕ} (loose : ℕ) → Explains f v (bit r) (bit w) → Found f v loose w w r
-found-known loose e = record { explains = e; chosen = 0; inside = none-sub loose; is = omega arith; least = λ z i l. absurd (omega arith) }
+pub met-known : {f : Formula} {v : Bool} {free w r : ℕ} (loose : ℕ) → Explains f v (bit r) (bit w) → Met f v free loose w w r
+met-known loose e = record { explains = e; chosen = 0; inside = none-sub loose; is = omega arith; least = λ s z i l. absurd (omega arith) }
+
+-- ---- from one to the other
+
+pub met-found : {f : Formula} {v : Bool} {free loose w word r : ℕ} → Met f v free loose w word r → Sub loose free → Found f v loose w word r
+met-found h s = record { explains = h .explains; chosen = h .chosen; inside = h .inside; is = h .is; least = h .least s }
+
+pub found-met : {f : Formula} {v : Bool} {free loose w word r : ℕ} → Found f v loose w word r → Met f v free loose w word r
+found-met h = record { explains = h .explains; chosen = h .chosen; inside = h .inside; is = h .is; least = λ s. h .least }
+
+-- for another reason
+pub met-other : {f : Formula} {v : Bool} {free loose w word r q : ℕ} → Met f v free loose w word r → (Explains f v (bit r) (bit word) → Explains f v (bit q) (bit word)) → Met f v free loose w word q
+met-other h e = record { explains = e (h .explains); chosen = h .chosen; inside = h .inside; is = h .is; least = h .least }
 
 -- ---- words that are apart
 
@@ -55,11 +67,11 @@ module _ {loose x w : ℕ} (t : Top loose x) (d : Apart w loose) where
   x-apart : Apart w (2 ^ x)
   x-apart = apart-sub d (one-sub x (top-bit t))
 
-  put-low : put w x false ≡ w
+  pub put-low : put w x false ≡ w
   unfolding put
   put-low = without-none w x (bits-apart (apart-sym d) x (top-bit t))
 
-  put-high : put w x true ≡ w + 2 ^ x
+  pub put-high : put w x true ≡ w + 2 ^ x
   unfolding put
   put-high = or-sum x-apart
 
@@ -72,31 +84,37 @@ module _ {loose x w : ℕ} (t : Top loose x) (d : Apart w loose) where
       go true z h q = sym (ap not q) ∙ h
       go false z h q = refl
 
-  found-first : {f : Formula} {v : Bool} {word r : ℕ} → Found f v (without loose (2 ^ x)) w word r → Found f v loose w word r
-  found-first h = record {
+  -- 0 is met first
+  pub met-low : {f : Formula} {v : Bool} {free word r : ℕ} → Met f v free (without loose (2 ^ x)) w word r → Met f v free loose w word r
+  met-low h = record {
     explains = h .explains;
     chosen = h .chosen;
     inside = sub-trans (h .inside) rest-sub;
     is = h .is;
-    least = λ z i l. ⊎-elim
-        (λ (j : Sub z (without loose (2 ^ x))). h .least z j l)
+    least = λ s z i l. ⊎-elim
+        (λ (j : Sub z (without loose (2 ^ x))). h .least (sub-trans rest-sub s) z j l)
         (λ (q : (y : ℕ) × Sub y (without loose (2 ^ x)) × (z ≡ y + 2 ^ x)). absurd (omega (arith, q .2, h .is, sub-le (h .inside), top-rest t .0)))
         (sub-split x i);
   }
 
-  found-second : {f : Formula} {v : Bool} {word r q : ℕ} → Lost f v (without loose (2 ^ x)) w q → Found f v (without loose (2 ^ x)) (w + 2 ^ x) word r → Found f v loose w word r
-  found-second {f = f} g h = record {
+  -- 1 is met, by the least word if 0 is lost
+  pub met-up : {f : Formula} {v : Bool} {free word r : ℕ} → (Sub loose free → (q : ℕ) × Lost f v (without loose (2 ^ x)) w q) → Met f v free (without loose (2 ^ x)) (w + 2 ^ x) word r → Met f v free loose w word r
+  met-up {f = f} g h = record {
     explains = h .explains;
     chosen = h .chosen + 2 ^ x;
     inside = add-one-sub x (top-bit t) (h .inside);
     is = omega (arith, h .is);
-    least = λ z i l. ⊎-elim
-        (λ (j : Sub z (without loose (2 ^ x))). lost-at g (apart-sub d rest-sub) z j)
+    least = λ s z i l. ⊎-elim
+        (λ (j : Sub z (without loose (2 ^ x))). lost-at (g s .1) (apart-sub d rest-sub) z j)
         (λ (c : (y : ℕ) × Sub y (without loose (2 ^ x)) × (z ≡ y + 2 ^ x)).
         let e : w + z ≡ w + 2 ^ x + c .0 = omega (arith, c .2) in
-        ap (λ (y : ℕ). truth f (bit y)) e ∙ h .least (c .0) (c .1) (omega (arith, c .2)))
+        ap (λ (y : ℕ). truth f (bit y)) e ∙ h .least (sub-trans rest-sub s) (c .0) (c .1) (omega (arith, c .2)))
         (sub-split x i);
   }
+
+  -- it may be tried first if x is not of `free`
+  met-high : {f : Formula} {v : Bool} {free word r : ℕ} → bit free x ≡ false → Met f v free (without loose (2 ^ x)) (w + 2 ^ x) word r → Met f v free loose w word r
+  met-high {free = free} n = met-up (λ s. clash (bit free x) (bits-sub s x (top-bit t)) n)
 
   lost-first : {f : Formula} {v : Bool} {r : ℕ} → Lost f v (without loose (2 ^ x)) w r → bit r x ≡ false → Lost f v loose w r
   lost-first g n = record { explains = g .explains; apart = clear-up (g .apart) n }
@@ -124,20 +142,32 @@ module _ {loose m w x p rest : ℕ} (T : Top loose x) (l : x < 64) (ep : p ≡ 2
   high-is : {m′ w′ : ℕ} → Fixed 64 m w x true m′ w′ → w′ ≡ w + 2 ^ x
   high-is F = F .values ∙ placed-put w true l ∙ put-high T (P .clear)
 
-  pub low-found : {f : Formula} {v : Bool} {m′ w′ word r : ℕ} → Fixed 64 m w x false m′ w′ → Found f v rest w′ word r → Found f v loose w word r
-  low-found F h = found-first T (P .clear) (rw (rest-is, low-is F) at h)
+  -- the value b is tried first: 1 only if x is not of `free`
+  pub first-met : {f : Formula} {v : Bool} {free : ℕ} (b : Bool) {m′ w′ word r : ℕ} → (b ≡ true → bit free x ≡ false) → Fixed 64 m w x b m′ w′ → Met f v free rest w′ word r → Met f v free loose w word r
+  first-met false n F h = met-low T (P .clear) (rw (rest-is, low-is F) at h)
+  first-met true n F h = met-high T (P .clear) (n refl) (rw (rest-is, high-is F) at h)
 
-  pub low-lost : {f : Formula} {v : Bool} {m′ w′ r : ℕ} → Fixed 64 m w x false m′ w′ → Lost f v rest w′ r → bit r x ≡ false → Lost f v loose w r
-  low-lost F h n = lost-first T (P .clear) (rw (rest-is, low-is F) at h) n
+  -- the other value is met behind it
+  pub second-met : {f : Formula} {v : Bool} {free : ℕ} (b : Bool) {m′ w′ m″ w″ q word r : ℕ} → Fixed 64 m w x b m′ w′ → Lost f v rest w′ q → Fixed 64 m w x (not b) m″ w″ → Met f v free rest w″ word r → Met f v free loose w word r
+  second-met false {q = q} F g G h = met-up T (P .clear) (λ s. (q, rw (rest-is, low-is F) at g)) (rw (rest-is, high-is G) at h)
+  second-met true F g G h = met-low T (P .clear) (rw (rest-is, low-is G) at h)
 
-  pub high-found : {f : Formula} {v : Bool} {m′ w′ m″ w″ q word r : ℕ} → Fixed 64 m w x false m′ w′ → Lost f v rest w′ q → Fixed 64 m w x true m″ w″ → Found f v rest w″ word r → Found f v loose w word r
-  high-found F g G h = found-second T (P .clear) (rw (rest-is, low-is F) at g) (rw (rest-is, high-is G) at h)
+  -- one of them fails without x
+  pub half-lost : {f : Formula} {v : Bool} (b : Bool) {m′ w′ r : ℕ} → Fixed 64 m w x b m′ w′ → Lost f v rest w′ r → bit r x ≡ false → Lost f v loose w r
+  half-lost false F h n = lost-first T (P .clear) (rw (rest-is, low-is F) at h) n
+  half-lost true F h n = lost-second T (P .clear) (rw (rest-is, high-is F) at h) n
 
-  pub high-lost : {f : Formula} {v : Bool} {m″ w″ r : ℕ} → Fixed 64 m w x true m″ w″ → Lost f v rest w″ r → bit r x ≡ false → Lost f v loose w r
-  high-lost G h n = lost-second T (P .clear) (rw (rest-is, high-is G) at h) n
-
-  pub both-lost : {f : Formula} {v : Bool} {m′ w′ m″ w″ q r z : ℕ} → Fixed 64 m w x false m′ w′ → Lost f v rest w′ q → Fixed 64 m w x true m″ w″ → Lost f v rest w″ r → z ≡ without (bitOr q r) p → Lost f v loose w z
-  both-lost F g G h e = rw (e, ep) (lost-both T (P .clear) (rw (rest-is, low-is F) at g) (rw (rest-is, high-is G) at h))
+  -- both fail
+  pub both-lost : {f : Formula} {v : Bool} (b : Bool) {m′ w′ m″ w″ q r z : ℕ} → Fixed 64 m w x b m′ w′ → Lost f v rest w′ q → Fixed 64 m w x (not b) m″ w″ → Lost f v rest w″ r → z ≡ without (bitOr q r) p → Lost f v loose w z
+  both-lost false F g G h e = rw (e, ep) (lost-both T (P .clear) (rw (rest-is, low-is F) at g) (rw (rest-is, high-is G) at h))
+  both-lost true {q = q} {r = r} F g G h e =
+      rw (e, ep, ext (bitOr q r) (bitOr r q) (λ k. bit-or q r k ∙ either (bit q k) (bit r k) ∙ sym (bit-or r q k))) (lost-both T (P .clear) (rw (rest-is, low-is G) at h) (rw (rest-is, high-is F) at g))
+    where
+      either : (a c : Bool) → (a || c) ≡ (c || a)
+      either true true = refl
+      either true false = refl
+      either false true = refl
+      either false false = refl
 
 -- ---- the cube with a loose variable x fixed, whichever it is
 

@@ -93,7 +93,7 @@ module _ {net : List ℕ} {k op left right mask m w : ℕ} (G : Ground net) (I :
 
 -- ---- the cells
 
-right-low : {net : List ℕ} {m w k v r : ℕ} → Right net m w k v r → v < 3
+pub right-low : {net : List ℕ} {m w k v r : ℕ} → Right net m w k v r → v < 3
 right-low {v = v} f = by-bool (ltb 0 v) (λ e. f (omega tests) .low) (λ e. omega tests)
 
 module _ {net : List ℕ} {m w : ℕ} {cells : List ℕ} where

@@ -49,7 +49,7 @@ fn input(cube: Cube64, v: u8) -> Known
 }
 
 // A constant or an input.
-fn leaf(op: u8, left: usize, cube: Cube64) -> Known
+pub fn leaf(op: u8, left: usize, cube: Cube64) -> Known
     requires { ⌜ (op < 3) × (op ≡ 2 → left < 64) ⌝ }
     ensures { λ r. ⌜ RightLeaf op left (cube .mask) (cube .values) (r .value) (r .reason) ⌝ }
 {
@@ -62,7 +62,7 @@ fn leaf(op: u8, left: usize, cube: Cube64) -> Known
     input(cube, variable(left))
 }
 
-fn negated(x: Known) -> Known
+pub fn negated(x: Known) -> Known
     requires { ⌜ x .value < 4 ⌝ }
     ensures { λ r. ⌜ Negated (x .value) (x .reason) (r .value) (r .reason) ⌝ }
 {
@@ -98,7 +98,7 @@ fn joined(d: u8, x: Known, y: Known) -> Known
 }
 
 // A quantifier over the mask that the value d decides: EXISTS by 2, FORALL by 1.
-fn bound(d: u8, mask: u64, x: Known) -> Known
+pub fn bound(d: u8, mask: u64, x: Known) -> Known
     ensures { λ r. ⌜ Bound d mask (x .value) (x .reason) (r .value) (r .reason) ⌝ }
 {
     if x.value == d {

@@ -11,7 +11,7 @@ use crate::node::frames;
 use crate::node::node_at;
 
 // Where the links of the variables begin.
-const READERS: usize = 3;
+pub const READERS: usize = 3;
 
 // The bits of the first word: users of the node, then the next user of what its left side is, then of what its right side is.
 const USERS: u64 = 268435456;

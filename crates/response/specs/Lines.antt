@@ -13,10 +13,10 @@ use Rattle.form.specs.Form.{answerStart}
 use Rattle.form.specs.declared.Form.{Form}
 use Rattle.form.specs.declared.Form.the-variants.{Narrow, Wide}
 use Rattle.sheet.specs.Fields.{Sheet, sheetOf}
-use Rattle.session.specs.Model.{answerBytes, lines, answerAt, answers}
-use Rattle.session.specs.Script.{length-answers, answer-bytes}
-use Rattle.run.specs.Run.{refusal, book}
-use Rattle.run.specs.Accept.{number-proper, proper-accepted}
+use Rattle.model.specs.Model.{answerBytes, lines, answerAt, answers}
+use Rattle.model.specs.Script.{length-answers, answer-bytes}
+use Rattle.certificate.specs.Run.{refusal, book}
+use Rattle.certificate.specs.Accept.{number-proper, proper-accepted}
 use Rattle.text.specs.Hex.{hexLine}
 use Rattle.text.specs.Reading.{scriptFrames, scriptFrameBytes, reading}
 use Rattle.text.specs.ReadingLaws.{Framed, script-framed}

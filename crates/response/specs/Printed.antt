@@ -10,8 +10,8 @@ use Rattle.form.specs.Form.{answerBytes, answerStart}
 use Rattle.form.specs.declared.Form.{Form}
 use Rattle.form.specs.declared.Form.the-variants.{Narrow, Wide}
 use Rattle.sheet.specs.Fields.{Sheet, sheetOf}
-use Rattle.session.specs.Model.{lines, answers}
-use Rattle.run.specs.Run.{refusal, book}
+use Rattle.model.specs.Model.{lines, answers}
+use Rattle.certificate.specs.Run.{refusal, book}
 use Rattle.text.specs.Hex.{hexLine}
 use Rattle.text.specs.Reading.{Reading, reading, writtenOver}
 use Rattle.text.specs.Answer.{answerLines}

@@ -16,10 +16,10 @@ use Rattle.form.specs.declared.Form.the-variants.{Narrow, Wide}
 use Rattle.sheet.specs.Cause.{Cause, Refusal, first, someHolds, first-append, first-earlier}
 use Rattle.sheet.specs.Rules.{sizeCauses, frameCauses}
 use Rattle.sheet.specs.Fields.{Sheet, sheetOf, mostFrames}
-use Rattle.session.specs.Model.{lines, answers}
-use Rattle.session.specs.Script.{length-answers}
-use Rattle.run.specs.Run.{mostLines, scriptCauses, roomCauses, refusal, book, Run}
-use Rattle.run.specs.Bounds.{place-below}
+use Rattle.model.specs.Model.{lines, answers}
+use Rattle.model.specs.Script.{length-answers}
+use Rattle.certificate.specs.Run.{mostLines, scriptCauses, roomCauses, refusal, book, Run}
+use Rattle.certificate.specs.Bounds.{place-below}
 use Rattle.text.specs.declared.Parsed.{Parsed}
 use Rattle.text.specs.Hex.{hexLine, hexLines}
 use Rattle.text.specs.Reading.{sheetRoom, scriptRoom, Reading, reading, readInto, writtenOver, Read}

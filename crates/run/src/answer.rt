@@ -6,8 +6,8 @@ ghost use lib.ListN.{length};
 ghost use lib.Seq.{sets};
 ghost use Rattle.words.specs.Bytes.{bytesOf};
 ghost use Rattle.form.specs.Form.{formOf, answersIn, answerStart};
-ghost use Rattle.session.specs.Model.{answerBytes};
-ghost use Rattle.run.specs.Written.{written};
+ghost use Rattle.model.specs.Model.{answerBytes};
+ghost use Rattle.certificate.specs.Written.{written};
 use form::Form;
 use session::Answer;
 

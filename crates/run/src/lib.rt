@@ -10,13 +10,13 @@ ghost use Rattle.form.specs.Form.{formOf, answersIn};
 ghost use Rattle.sheet.specs.Cause.{first};
 ghost use Rattle.sheet.specs.Check.{Checks};
 ghost use Rattle.sheet.specs.Fields.{sheetOf, narrow, wide};
-ghost use Rattle.session.specs.Model.{lines};
+ghost use Rattle.model.specs.Model.{lines};
 ghost use Rattle.net.specs.Layout.{freeOf};
 ghost use Rattle.net.specs.Load.{Empty};
 ghost use Rattle.net.specs.Sheet.{Checked, NetOf};
 ghost use Rattle.session.specs.Sound.{OnNet};
-ghost use Rattle.run.specs.Run.{scriptCauses, roomCauses, causes, Run};
-ghost use Rattle.run.specs.Progress.{LineIs, LineRun, Progress};
+ghost use Rattle.certificate.specs.Run.{scriptCauses, roomCauses, causes, Run};
+ghost use Rattle.certificate.specs.Progress.{LineIs, LineRun, Progress};
 use form::Form;
 use session::Session;
 use sheet::refusal;
@@ -184,7 +184,7 @@ fn run_form(
             over: 0,
         };
     }
-    net::load(sheet, wide, checked.free, checked.gauges, net);
+    phase::load(sheet, wide, checked.free, checked.gauges, net);
     let last = run_lines(wide, net, script, answers, under, over);
     Ran {
         number: 0,

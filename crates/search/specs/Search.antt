@@ -1,5 +1,5 @@
 -- What the search over a net is asked and finds: the contracts of source 000's two functions. Assumes nothing.
-use Prim.Native.Nat.{ℕ, _+_, _≤_, _<_, _^_}
+use Prim.Native.Nat.{ℕ, _+_, _*_, _≤_, _<_, _^_}
 use mathlib.Core.Path.{_≡_}
 use mathlib.Core.Bool.{Bool, true, false}
 use mathlib.Core.List.{List}
@@ -10,7 +10,7 @@ use Rattle.records.specs.Both.{Tables}
 use Rattle.net.specs.Net.{Clear}
 use Rattle.net.specs.Layout.{netForm, framesOf, packed, formulaAt, val, Ground}
 use Rattle.judge.specs.Judge.{Judged}
-pub use Rattle.imply.specs.Posed.{Found, Lost, Free, Covers, Posed}
+pub use Rattle.imply.specs.Posed.{Found, Met, Lost, Solved, Free, Covers, Posed}
 pub use Rattle.proxies.specs.Told.{Told}
 
 -- f is searched for the truth t over the variables of `loose`
@@ -18,13 +18,9 @@ abbrev pub Settled : Formula → ℕ → ℕ → ℕ → Bool → ℕ → ℕ �
 Settled f t loose w true word r = Found f (val t) loose w word r
 Settled f t loose w false word r = Lost f (val t) loose w r
 
--- node a is
-abbrev pub Solved : List ℕ → ℕ → ℕ → ℕ → ℕ → Bool → ℕ → ℕ → Type 0
-Solved net a t loose w found word r = Settled (formulaAt net a) t loose w found word r
-
--- the scratch for wants has a place for every node, and the records are true of the net
+-- the scratch for wants and tables has three words for every node, and the records are true of the net
 pub record Lent (net wants u : List ℕ) (cu : ℕ) (o : List ℕ) (co : ℕ) : Type 0 where
-  pub long : length net ≤ 67 + length wants
+  pub long : 3 * length net ≤ 201 + 2 * length wants
   pub tables : Tables (netForm net) (formulaAt net) (framesOf net) u cu o co
 
 -- node i under a full candidate, or a quantifier of a question behind the frames

@@ -21,20 +21,20 @@ use Rattle.formula.specs.Over.{over-free}
 use Rattle.net.specs.Net.{Clear}
 use Rattle.net.specs.Clear.{clear-less, clear-sub, clear-or}
 use Rattle.net.specs.Stands.{mask-decided, mask-undecided}
-use Rattle.net.specs.Layout.{netForm, framesOf, packed, formulaAt, Is, val, val-not, val-flip, decides, decides-some, decides-low, binds-is}
+use Rattle.net.specs.Layout.{netForm, framesOf, freeOf, packed, formulaAt, Is, val, val-not, val-flip, decides, decides-some, decides-low, binds-is}
 use Rattle.net.specs.Layout.{f-fixed, f-true, f-reads, f-flips, f-joins, f-binds, flips-below, joins-left, joins-right, binds-below}
 use Rattle.judge.specs.Judge.{Right, Judged}
 use Rattle.proxies.specs.Kept.{Shown}
 use Rattle.proxies.specs.KeptLaws.{told-of}
-use Rattle.search.specs.Search.{Found, Lost, Solved, Lent, Posed, Checked, Told, Leaf}
-use Rattle.imply.specs.Halves.{found-known, apart-inside, bit-plus, or-none, off-sub, off-mask, half-clear, half-free, half-same}
+use Rattle.search.specs.Search.{Met, Lost, Solved, Lent, Posed, Checked, Told, Leaf}
+use Rattle.imply.specs.Halves.{met-known, apart-inside, bit-plus, or-none, off-sub, off-mask, half-clear, half-free, half-same}
 use Rattle.judge.specs.JudgeLaws.{judged-fixed, judged-inner}
 
 -- ---- known values
 
 module _ {net : List ℕ} {a t loose m w : ℕ} {cells : List ℕ} (P : Posed net a t loose m w cells) where
-  pub known-found : {v r : ℕ} → 0 < v → Right net m w a v r → v ≡ t → Found (formulaAt net a) (val t) loose w w r
-  known-found s f e = found-known loose (rw e at (f s .explains))
+  pub known-met : {v r : ℕ} → 0 < v → Right net m w a v r → v ≡ t → Met (formulaAt net a) (val t) (freeOf net) loose w w r
+  known-met s f e = met-known loose (rw e at (f s .explains))
 
   pub known-lost : {v r : ℕ} → 0 < v → Right net m w a v r → (v ≡ t → ⊥) → Lost (formulaAt net a) (val t) loose w r
   known-lost {v} s f n = record { explains = rw (val-not v t s (f s .low) (P .target-some) (P .target-low) n) at (f s .explains); apart = apart-inside (f s .assigned) (P .free .apart) }
@@ -59,8 +59,8 @@ module _ {net : List ℕ} {a t loose m w : ℕ} {cells : List ℕ} (P : Posed ne
 
 -- the value of a full candidate decides the search
 module _ {net : List ℕ} {a t loose m w v r : ℕ} {cells : List ℕ} (P : Posed net a t loose m w cells) (T : Told net m w a v r) where
-  pub told-met : v ≡ t → Found (formulaAt net a) (val t) loose w w r
-  told-met e = known-found P (T .some) (λ s. T .forced) e
+  pub told-met : v ≡ t → Met (formulaAt net a) (val t) (freeOf net) loose w w r
+  told-met e = known-met P (T .some) (λ s. T .forced) e
 
   pub told-missed : (v ≡ t → ⊥) → Lost (formulaAt net a) (val t) loose w r
   told-missed n = known-lost P (T .some) (λ s. T .forced) n
@@ -174,7 +174,7 @@ module _ {net : List ℕ} {i m w op left right mask : ℕ} {cells : List ℕ} (K
       judged = judged-inner em ew bound-free (K .judged);
     }
 
-    told-found : {word r : ℕ} → Found (formulaAt net left) (val (decides op)) mask (without w mask) word r → Told net m w i (decides op) (without r mask)
+    told-found : {word r : ℕ} → Met (formulaAt net left) (val (decides op)) (freeOf net) mask (without w mask) word r → Told net m w i (decides op) (without r mask)
     told-found {word} {r} h =
         told-of (K .covers) (decides-some op) (decides-low op) (rw (f-binds (K .ground) I l) (explains-set (mask-decided (val (decides op)) mask r (h .explains)) (bit w) (λ k q.
         let n = bits-apart (without-apart r mask) k q in

@@ -1,6 +1,7 @@
 // The functions that call each other on falling node numbers. Source 000's subtreeIsSolved is `choose` with `extend`, `settle`, `push`, `branch` and
 // `candidate`; its solutionForallChildren is `check` with `evaluate`, `gate` and `quantified`.
 use cube::Cube64;
+use implicant::implicant;
 use judge::Known;
 use judge::cells;
 use judge::forward;
@@ -8,6 +9,7 @@ use judge::known_at;
 use net::Node;
 use net::node::decided;
 use net::node_at;
+use phase::one_first;
 use proxies::body_shows;
 use proxies::note;
 use proxies::recorded;
@@ -38,8 +40,9 @@ struct Valued {
     kept: Counts,
 }
 
-// Can the variables of the quantifier i be assigned, over the cube, so that its body has the truth that decides it? Candidates are tried in the order of
-// their words. `fresh` are the variables fixed since the cells were judged.
+// Can the variables of the quantifier i be assigned, over the cube, so that its body has the truth that decides it? Candidates with free variables are tried in the
+// order of their words, others by the phases of their variables. `fresh` are the variables fixed since the cells were judged. What is found is explained
+// once more, by fewer of the variables outside.
 pub fn choose(
     net: &[u64],
     i: usize,
@@ -60,7 +63,7 @@ pub fn choose(
 {
     let inner = cube.free_all(node.mask);
     let d = decided(node.op);
-    extend(
+    let out = extend(
         net,
         node.left,
         d,
@@ -72,7 +75,18 @@ pub fn choose(
         under,
         over,
         kept,
-    )
+    );
+    if out.found {
+        let why = implicant(net, node.left, d, out.word, out.reason, node.mask, wants);
+        let after = out.kept;
+        return Outcome {
+            found: true,
+            word: out.word,
+            reason: why,
+            kept: after,
+        };
+    }
+    out
 }
 
 // The last variable is tried without a look for what it is forced to, and with it most of what is unknown comes to be known. Only the time depends on this.
@@ -161,7 +175,8 @@ fn settle(
     push(net, a, target, loose, cube, cells, wants, under, over, kept)
 }
 
-// The variables that the target forces are set first. A search that fails below them has their reasons in place of them.
+// The variables that the target forces are set first. A search that fails below them has their reasons in place of them. Where nothing is forced, tables have all
+// candidates, if these are few and no quantifier is in between.
 fn push(
     net: &[u64],
     a: usize,
@@ -183,6 +198,15 @@ fn push(
     let mut whys = [0u64; 64];
     let f = imply::force(net, a, target, loose, cube, &cells[..], wants, &mut whys);
     if f.mask == 0 {
+        let t = lanes::solve(net, a, target, loose, cube, &cells[..], wants);
+        if t.settled {
+            return Outcome {
+                found: t.found,
+                word: t.word,
+                reason: t.reason,
+                kept,
+            };
+        }
         return branch(net, a, target, loose, cube, cells, wants, under, over, kept);
     }
     let rest = w64::without(loose, f.mask);
@@ -216,7 +240,7 @@ fn push(
     }
 }
 
-// Both halves of the highest loose variable, 0 first. A half that fails for a reason without the variable settles the other.
+// Both halves of the highest loose variable: 0 first, or 1 of a bound variable whose phase says so. A half that fails for a reason without the variable settles the other.
 fn branch(
     net: &[u64],
     a: usize,
@@ -238,13 +262,14 @@ fn branch(
     let x = w64::highest(loose);
     let only = w64::one(x);
     let rest = w64::without(loose, only);
-    let lower = cube.fix(x, false);
+    let first = one_first(net, x);
+    let begun = cube.fix(x, first);
     let low = extend(
         net,
         a,
         target,
         rest,
-        lower,
+        begun,
         only,
         cells,
         wants,
@@ -258,14 +283,14 @@ fn branch(
     if !w64::has(low.reason, x) {
         return low;
     }
-    let upper = cube.fix(x, true);
+    let turned = cube.fix(x, !first);
     let between = low.kept;
     let high = extend(
         net,
         a,
         target,
         rest,
-        upper,
+        turned,
         only,
         cells,
         wants,

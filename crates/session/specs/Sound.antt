@@ -15,10 +15,10 @@ use Rattle.net.specs.Layout.{freeOf}
 use Rattle.net.specs.Sheet.{NetOf}
 pub use Rattle.net.specs.Sheet.{Checked}
 use Rattle.solver.specs.Contract.{root, Tables, Ready}
-use Rattle.session.specs.declared.Entry.{Entry}
+use Rattle.model.specs.declared.Entry.{Entry}
 use Rattle.session.specs.declared.Session.{Session}
-use Rattle.session.specs.Model.{Meaning, meaning, noEntry, enteredMask, enteredValues, entered}
-use Rattle.session.specs.Entries.{Entered, Words, words-valued, words-opened, entryAt, none-entered, not-earlier, opens-below, bit-opens}
+use Rattle.model.specs.Model.{Meaning, meaning, noEntry, enteredMask, enteredValues, entered}
+use Rattle.model.specs.Entries.{Entered, Words, words-valued, words-opened, entryAt, none-entered, not-earlier, opens-below, bit-opens}
 
 -- the entries that stand, oldest first
 abbrev pub standingOf : Session → List Entry

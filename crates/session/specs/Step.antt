@@ -8,9 +8,9 @@ use lib.Dec.{eqb}
 use Rattle.formula.specs.Ask.{Verdict}
 use Rattle.sheet.specs.Fields.{Sheet}
 use Rattle.solver.specs.Contract.{verdictOf, reasonOf, TablesGrown, Promised}
-use Rattle.session.specs.declared.Entry.{Entry}
+use Rattle.model.specs.declared.Entry.{Entry}
 use Rattle.session.specs.declared.Session.{Session}
-use Rattle.session.specs.Model.{Answer, Reply, judged, enteredMask, enteredValues, ASK, WHY, line}
+use Rattle.model.specs.Model.{Answer, Reply, judged, enteredMask, enteredValues, ASK, WHY, line}
 use Rattle.session.specs.Sound.{standingOf, WordsKept, sheetMeaning, Sound}
 
 -- what ASK and WHY say of a sheet where the entries es stand

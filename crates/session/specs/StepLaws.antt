@@ -18,12 +18,12 @@ use Rattle.sheet.specs.Fields.{Sheet, variables}
 use Rattle.sheet.specs.Rules.{spareSet, gauges}
 use Rattle.records.specs.Both.{tables-same}
 use Rattle.solver.specs.Contract.{root, TablesGrown, Same}
-use Rattle.session.specs.declared.Entry.{Entry}
+use Rattle.model.specs.declared.Entry.{Entry}
 use Rattle.session.specs.declared.Session.{Session}
-use Rattle.session.specs.Model.{Meaning, meaning, Reply, reply, refused, counted, told, judged, noEntry, enteredMask, enteredValues, entered, ENTER, TAKE-BACK, READ, ASK, WHY, used, unknown, lineRefusal, obeyed, line}
-use Rattle.session.specs.Entries.{Words, entryAt, entered-more, entries-at-most, opens-below, mask-snoc, values-snoc, bit-enteredMask, value-none}
-use Rattle.session.specs.Line.{Passes, refusal-none, line-refused, line-taken}
-use Rattle.session.specs.Invariant.{line-keeps}
+use Rattle.model.specs.Model.{Meaning, meaning, Reply, reply, refused, counted, told, judged, noEntry, enteredMask, enteredValues, entered, ENTER, TAKE-BACK, READ, ASK, WHY, used, unknown, lineRefusal, obeyed, line}
+use Rattle.model.specs.Entries.{Words, entryAt, entered-more, entries-at-most, opens-below, mask-snoc, values-snoc, bit-enteredMask, value-none}
+use Rattle.model.specs.Line.{Passes, refusal-none, line-refused, line-taken}
+use Rattle.model.specs.Invariant.{line-keeps}
 use Rattle.session.specs.Sound.{standingOf, sheetMeaning, Shaped, Fresh, Sound, sound-length}
 use Rattle.session.specs.Step.{askOf, whyOf, PromisedFor, Tells, Replies, Recounted, Searches, Untouched, searches, Step}
 

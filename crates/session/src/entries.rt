@@ -3,7 +3,7 @@ ghost use mathlib.Core.Path.{_≡_};
 ghost use mathlib.Core.List.{[], _∷_, _++_};
 ghost use Prim.Native.Nat.{_+_, _-_, _<_};
 ghost use lib.ListN.{take};
-ghost use Rattle.session.specs.Entries.{entryAt};
+ghost use Rattle.model.specs.Entries.{entryAt};
 ghost use Rattle.session.specs.Sound.{standingOf, Shaped, Fresh, Empty};
 ghost use Rattle.session.specs.Step.{Moved};
 use crate::Entry;

@@ -5,13 +5,7 @@ pub mod inplace;
 pub mod line;
 
 use cube::Cube64;
-
-// A variable that is entered, its value, and the desk that entered it.
-pub struct Entry {
-    pub variable: u8,
-    pub value: u8,
-    pub desk: u8,
-}
+pub use model::Entry;
 
 // The first `len` entries stand, oldest first, and `entered` fixes their variables at their values, so that no line walks them; the first `under` and
 // `over` records of the two tables count.

@@ -1,5 +1,5 @@
 -- A question to the search: what it needs of a net, and the quantifiers that it puts behind the frames. Assumes nothing.
-use Prim.Native.Nat.{ℕ, _+_, _-_, _≤_, _<_}
+use Prim.Native.Nat.{ℕ, _+_, _*_, _-_, _≤_, _<_}
 use mathlib.Core.Path.{_≡_}
 use mathlib.Core.Bool.{true, false}
 use mathlib.Core.List.{List}
@@ -21,7 +21,7 @@ pub record Scratch (net cells wants : List ℕ) : Type 0 where
   pub words : ℕ
   pub enough : length net ≤ 67 + words
   pub empty : cells ≡ replicate words 0
-  pub wanted : length wants ≡ words
+  pub wanted : 2 * length wants ≡ 3 * words
 
 -- what is asked of the last frame: that for every setting of `all` some setting of `some` makes it true
 abbrev pub asked : List ℕ → ℕ → ℕ → Formula

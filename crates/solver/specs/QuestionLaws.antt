@@ -1,9 +1,10 @@
 -- The net with a question's quantifiers can be searched, and what the search finds there is found of what is asked. Assumes nothing.
-use Prim.Native.Nat.{ℕ, _+_, _-_, _≤_, _<_}
+use Prim.Native.Nat.{ℕ, _+_, _-_, _*_, _≤_, _<_}
 use native.Mathlib.Omega.{arith}
 use native.Mathlib.Nat.{add-zero}
 use mathlib.Core.Path.{_≡_, sym, _∙_, ap, subst}
 use mathlib.Core.Bool.{Bool, true, false, not}
+use mathlib.Core.Logic.{inl}
 use mathlib.Core.List.{List}
 use lib.ListN.{length, replicate, length-replicate}
 use lib.Bits.{bitOr, or-zero-r}
@@ -17,19 +18,20 @@ use Rattle.sheet.specs.Fields.{Sheet}
 use Rattle.records.specs.Both.{TablesGrown}
 use Rattle.net.specs.Net.{at-binds}
 use Rattle.net.specs.Stands.{Stands, stands-refl}
-use Rattle.net.specs.Layout.{netWords, netForm, form-same, framesOf, formulaAt, Ground, HasNode, Is, val, decides}
+use Rattle.net.specs.Layout.{netWords, netForm, form-same, framesOf, freeOf, formulaAt, Ground, HasNode, Is, val, decides}
 use Rattle.net.specs.Sheet.{net-form}
 use Rattle.net.specs.Own.{Chosen, Stacked}
 use Rattle.net.specs.OwnLaws.{stacked-none, stacked-more, chosen-same, chosen-node, chosen-formula, is-chosen, is-chosen-val}
 use Rattle.judge.specs.Judge.{Judged}
 use Rattle.judge.specs.JudgeLaws.{judged-none}
+use Rattle.imply.specs.Halves.{met-found}
 use Rattle.search.specs.Search.{Settled, Solved, Checked, Lent}
 use Rattle.solver.specs.Across.{tables-stands, grown-stands, root-stands, bit-opens}
 use Rattle.solver.specs.Question.{asked, Masks, Asking, Layered, Placed, Scratch}
 
 -- scratch that is all 0, of n words
-pub blank-scratch : (n : ℕ) {net cells wants : List ℕ} → length net ≤ 67 + n → cells ≡ replicate n 0 → wants ≡ replicate n 0 → Scratch net cells wants
-blank-scratch n l ec ew = record { words = n; enough = l; empty = ec; wanted = rw (ew, length-replicate) }
+pub blank-scratch : (n m : ℕ) {net cells wants : List ℕ} → length net ≤ 67 + n → 2 * m ≡ 3 * n → cells ≡ replicate n 0 → wants ≡ replicate m 0 → Scratch net cells wants
+blank-scratch n m l e ec ew = record { words = n; enough = l; empty = ec; wanted = rw (ew, length-replicate) e }
 
 -- how many words the net of a question has, by the form that it tells
 pub asked-words : {s : Sheet} {net : List ℕ} {t loose all some m w : ℕ} {u : List ℕ} {cu : ℕ} {o : List ℕ} {co : ℕ} → Asking s net t loose all some m w u cu o co
@@ -132,6 +134,9 @@ module _ {s : Sheet} {net : List ℕ} {t loose all some m w : ℕ} {u : List ℕ
       (bit-opens (A .masks .net-of) (A .masks .frames) x ∙ sym (root-stands (A .masks .net-of) (A .masks .frames) .reads x) ∙ r .0)
       (bit-or (bitOr some all) loose x ∙ rw (bit-or some all x, not-true (bit some x) (r .1), not-true (bit all x) (q .1), not-true (bit loose x) (p .1)))
 
+  same-free : freeOf net′ ≡ freeOf net
+  same-free = P .stacked .others 1 (inl (omega arith))
+
   same-form : netForm net′ ≡ netForm net
   same-form = form-same net net′ (P .stacked .long)
 
@@ -174,10 +179,13 @@ module _ {s : Sheet} {net : List ℕ} {t loose all some m w : ℕ} {u : List ℕ
     same-body : formulaAt net′ left ≡ asked net all some
     same-body = ap (formulaAt net′) same-left ∙ P .body
 
-    -- what is found at the quantifier
+    -- what is found at the quantifier: its variables are free, so that the word is the least
     pub asked-solved : (found : Bool) (word r : ℕ) → Solved net′ left (decides op) mask (without w mask) found word r → Settled (asked net all some) t loose w found word r
-    asked-solved found word r h =
-        subst (λ (g : Formula). Settled g t loose w found word r) same-body
+    asked-solved true word r h =
+        subst (λ (g : Formula). Settled g t loose w true word r) same-body
+        (met-found (rw (same-mask, same-truth, kept-values) at h) (rw same-free (A .masks .loose-free)))
+    asked-solved false word r h =
+        subst (λ (g : Formula). Settled g t loose w false word r) same-body
         (rw (same-mask, same-truth, kept-values) at h)
 
   -- and the tables that the search leaves

@@ -118,7 +118,7 @@ fn solve_narrow(
     ensures { λ r. ⌜ now (net .exit) ≡ now (net .entry) ⌝ }
 {
     let mut cells = [0u64; 406];
-    let mut wants = [0u64; 406];
+    let mut wants = [0u64; 609];
     solve_in(net, q, cube, &mut cells, &mut wants, under, over, kept)
 }
 
@@ -138,7 +138,7 @@ fn solve_wide(
     ensures { λ r. ⌜ now (net .exit) ≡ now (net .entry) ⌝ }
 {
     let mut cells = [0u64; 6006];
-    let mut wants = [0u64; 6006];
+    let mut wants = [0u64; 9009];
     solve_in(net, q, cube, &mut cells, &mut wants, under, over, kept)
 }
 

@@ -22,14 +22,14 @@ use Rattle.sheet.specs.Gauges.{gauge-named, some-gauge}
 use Rattle.sheet.specs.Keeps.{Keeps}
 use Rattle.sheet.specs.declared.Fields.{Fields}
 use Rattle.sheet.specs.declared.Kind.{Kind}
-use Rattle.session.specs.declared.Entry.{Entry}
-use Rattle.session.specs.Model.{Meaning, Answer, answerBytes, meaning, enteredMask, enteredValues, Reply, lineRefusal, obeyed, line, lines, lineAt, after, answerAt}
-use Rattle.session.specs.Entries.{Entered, mask-lt, none-entered}
-use Rattle.session.specs.Script.{after-keeps}
-use Rattle.run.specs.Run.{book, before}
-use Rattle.run.specs.Before.{kept-accepted}
-use Rattle.run.specs.Call.{Call, Meets}
-use Rattle.run.specs.Certificate.{lineBytes, accepted-exactly, one-answer}
+use Rattle.model.specs.declared.Entry.{Entry}
+use Rattle.model.specs.Model.{Meaning, Answer, answerBytes, meaning, enteredMask, enteredValues, Reply, lineRefusal, obeyed, line, lines, lineAt, after, answerAt}
+use Rattle.model.specs.Entries.{Entered, mask-lt, none-entered}
+use Rattle.model.specs.Script.{after-keeps}
+use Rattle.certificate.specs.Run.{book, before}
+use Rattle.certificate.specs.Before.{kept-accepted}
+use Rattle.certificate.specs.Call.{Call, Meets}
+use Rattle.certificate.specs.Certificate.{lineBytes, accepted-exactly, one-answer}
 use Rattle.widen.specs.Widen.{widened}
 use Rattle.widen.specs.WidenLaws.{widened-length, widened-frames, same-fields, same-kind, same-formula}
 

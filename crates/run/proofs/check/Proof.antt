@@ -1,7 +1,7 @@
 -- `run::check` meets its contract.
 use borrow.Author.Needs.{needs}
 use Rattle.sheet.specs.Fields.{sheetOf}
-use Rattle.run.specs.Checking.{size-checks, size-none, script-checks, frames-checks}
+use Rattle.certificate.specs.Checking.{size-checks, size-none, script-checks, frames-checks}
 use Rattle.run.proofs.check.Statement.{statement}
 use Rattle.run.proofs.check.Tie as tie
 

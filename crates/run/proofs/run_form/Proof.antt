@@ -3,7 +3,7 @@ use borrow.Author.Needs.{needs}
 use Rattle.form.specs.Form.{formOf}
 use Rattle.sheet.specs.Fields.{sheetOf}
 use Rattle.net.specs.Sheet.{checked-net}
-use Rattle.run.specs.Progress.{run-room, run-checked, run-gauged, run-accepted, run-refused}
+use Rattle.certificate.specs.Progress.{run-room, run-checked, run-gauged, run-accepted, run-refused}
 use Rattle.run.proofs.run_form.Statement.{statement}
 use Rattle.run.proofs.run_form.Tie as tie
 

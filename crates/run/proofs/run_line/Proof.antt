@@ -39,7 +39,7 @@ use denote.Triple.Table.{entered, cited}
 use denote.Triple.Walked.{says, needs, Stays, walkOf, Walks, ends-at, walked, walk-meets}
 use Rattle.form.specs.Form.{formOf, answersIn, answerStart}
 use Rattle.sheet.specs.Fields.{sheetOf}
-use Rattle.session.specs.Model.{answerBytes, lines}
+use Rattle.model.specs.Model.{answerBytes, lines}
 use Rattle.session.specs.Sound.{OnNet}
 use Rattle.session.specs.declared.Session.{Session}
 use Rattle.session.specs.declared.Answer.{Answer}
@@ -52,8 +52,8 @@ use Rattle.session.proofs.inplace.step as stp
 use Rattle.session.proofs.inplace.step.Symbol as stp-def
 use Rattle.session.proofs.inplace.step.Symbol.{name as #session·inplace·step}
 use Rattle.session.proofs.inplace.step.Met as stp-thm
-use Rattle.run.specs.Progress.{LineIs, line-run}
-use Rattle.run.specs.Written.{written}
+use Rattle.certificate.specs.Progress.{LineIs, line-run}
+use Rattle.certificate.specs.Written.{written}
 use Rattle.run.specs.declared.Line.{Line}
 use Rattle.run.proofs.Line as L
 use Rattle.run.proofs.Line.Laws as L′

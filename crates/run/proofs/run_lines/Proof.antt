@@ -62,7 +62,7 @@ use Rattle.sheet.proofs.ReaderCalls.{type-at}
 use Rattle.net.specs.Layout.{freeOf}
 use Rattle.net.specs.Sheet.{Checked, NetOf}
 use Rattle.sheet.proofs.Relent.{lent, Table, Bare, Way, bare, valued, lends}
-use Rattle.session.specs.Model.{lines}
+use Rattle.model.specs.Model.{lines}
 use Rattle.session.specs.Sound.{OnNet, Empty}
 use Rattle.session.specs.declared.Session.{Session}
 use Rattle.session.proofs.Beside.{slice}
@@ -72,7 +72,7 @@ use Rattle.session.proofs.entries.empty as emp
 use Rattle.session.proofs.entries.empty.Symbol as emp-def
 use Rattle.session.proofs.entries.empty.Symbol.{name as #session·entries·empty}
 use Rattle.session.proofs.entries.empty.Met as emp-thm
-use Rattle.run.specs.Progress.{LineRun, Progress, Turns, turns-none, turns-next, turns-asked}
+use Rattle.certificate.specs.Progress.{LineRun, Progress, Turns, turns-none, turns-next, turns-asked}
 use Rattle.run.specs.declared.Turn.{Turn}
 use Rattle.run.proofs.Turn as U
 use Rattle.run.proofs.Turn.Laws as U′

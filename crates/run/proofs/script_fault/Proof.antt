@@ -2,9 +2,9 @@
 use borrow.Author.Needs.{needs}
 use borrow.Author.Tests.{eq-eqb, ne-eqb, lt-ltb, le-ltb}
 use Rattle.sheet.specs.Cause.{first}
-use Rattle.session.specs.Model.{lines}
-use Rattle.run.specs.Run.{scriptCauses, roomCauses}
-use Rattle.run.specs.Checking.{room-short, room-enough}
+use Rattle.model.specs.Model.{lines}
+use Rattle.certificate.specs.Run.{scriptCauses, roomCauses}
+use Rattle.certificate.specs.Checking.{room-short, room-enough}
 use Rattle.run.proofs.script_fault.Statement.{statement}
 use Rattle.run.proofs.script_fault.Tie as tie
 

@@ -1,7 +1,7 @@
 -- `run::answer::write_narrow` meets its contract.
 use borrow.Author.Needs.{needs}
 use denote.Ref.{now}
-use Rattle.run.specs.Written.{narrow-written}
+use Rattle.certificate.specs.Written.{narrow-written}
 use Rattle.run.proofs.answer.write_narrow.Statement.{statement}
 use Rattle.run.proofs.answer.write_narrow.Tie as tie
 

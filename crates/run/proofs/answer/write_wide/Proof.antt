@@ -2,7 +2,7 @@
 use borrow.Author.Needs.{needs}
 use mathlib.Core.Path.{refl}
 use denote.Ref.{now}
-use Rattle.run.specs.Written.{wide-written}
+use Rattle.certificate.specs.Written.{wide-written}
 use Rattle.run.proofs.answer.write_wide.Statement.{statement}
 use Rattle.run.proofs.answer.write_wide.Tie as tie
 

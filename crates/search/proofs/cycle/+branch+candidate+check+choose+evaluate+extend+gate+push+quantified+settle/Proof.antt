@@ -9,15 +9,15 @@ use borrow.Fn.Kinds.{In}
 use borrow.Fn.PlainCycle.{Measures, is, falls, and}
 use Rattle.words.specs.Mask.{top-bit, top-less}
 use Rattle.records.specs.Both.{tables-same, tables-then}
-use Rattle.net.specs.Layout.{reads-low, flips-below, joins-left, joins-right, binds-below}
+use Rattle.net.specs.Layout.{decides-some, reads-low, flips-below, joins-left, joins-right, binds-below}
 use Rattle.judge.specs.JudgeLaws.{judged-at, judging-none, judging-then}
 use Rattle.judge.specs.CellLaws.{trail-none}
 use Rattle.proxies.specs.KeptLaws.{recorded-told}
 use Rattle.search.specs.SearchLaws.{checked-flip, checked-left, checked-right, lent-after, perNode, body-less}
 use Rattle.search.specs.SearchLaws.{told-met, told-missed, told-known, told-leaf, told-flip, told-left, told-right, told-both, told-shown}
-use Rattle.search.specs.SearchLaws.{known-found, known-lost, posed-cells, posed-checked, posed-half, posed-body}
-use Rattle.imply.specs.ForceLaws.{forced-less, forced-found, posed-forced, pushed-lost}
-use Rattle.imply.specs.Halves.{low-found, low-lost, high-found, high-lost, both-lost}
+use Rattle.search.specs.SearchLaws.{known-met, known-lost, posed-cells, posed-checked, posed-half, posed-body}
+use Rattle.imply.specs.ForceLaws.{forced-less, forced-met, posed-forced, pushed-lost}
+use Rattle.imply.specs.Halves.{first-met, second-met, half-lost, both-lost, met-other}
 use Rattle.search.proofs.cycle.branch.Reads as branch
 use Rattle.search.proofs.cycle.branch.Kinds as branch-kinds
 use Rattle.search.proofs.cycle.+branch+candidate+check+choose+evaluate+extend+gate+push+quantified+settle.Lts-branch as branch-lts
@@ -62,6 +62,9 @@ use Rattle.search.proofs.cycle.few.Reads as few-reads
 use Rattle.search.proofs.cycle.leaf.Reads as leaf-reads
 use Rattle.imply.proofs.force.Reads as force-reads
 use Rattle.imply.proofs.gather.Reads as gather-reads
+use Rattle.implicant.proofs.implicant.Reads as implicant-reads
+use Rattle.lanes.proofs.settle.solve.Reads as solve-reads
+use Rattle.phase.proofs.one_first.Reads as one-first-reads
 use Rattle.proxies.proofs.note.Reads as note-reads
 use Rattle.proxies.proofs.recorded.Reads as recorded-reads
 use Rattle.words.proofs.w64.has.Reads as has-reads
@@ -177,6 +180,8 @@ branch-claims t = (
   one-reads.Learnt,
   without-reads.Asked,
   without-reads.Learnt,
+  one-first-reads.Asked,
+  one-first-reads.Learnt,
   fix-reads.Asked,
   fix-reads.Learnt,
   extend-below t,
@@ -211,6 +216,8 @@ choose-claims t = (
   decided-reads.Learnt,
   extend-below t,
   extend.Post,
+  implicant-reads.Asked,
+  implicant-reads.Learnt,
 )
 
 abbrev evaluate-claims : ℕ → evaluate-lts.Claims
@@ -246,6 +253,8 @@ abbrev push-claims : ℕ → push-lts.Claims
 push-claims t = (
   force-reads.Asked,
   force-reads.Learnt,
+  solve-reads.Asked,
+  solve-reads.Learnt,
   branch-below t,
   branch.Post,
   without-reads.Asked,
@@ -293,15 +302,18 @@ branch-one-requires t c κs = c .highest .ensures .1
 branch-without-requires : (t : ℕ) → branch-lts.Need-without-requires (branch-claims t) (branch-at t) branch.Post
 branch-without-requires t c κs = search needs
 
+branch-one-first-requires : (t : ℕ) → branch-lts.Need-one-first-requires (branch-claims t) (branch-at t) branch.Post
+branch-one-first-requires t c κs = (c .before .before .highest .ensures .1, omega (arith, c .before .before .before .before .before .before .before .before .pre .1 .1 .0 .ground .room))
+
 branch-fix-requires : (t : ℕ) → branch-lts.Need-fix-requires (branch-claims t) (branch-at t) branch.Post
 branch-fix-requires t c κs = search needs
 
 branch-extend-requires : (t : ℕ) → branch-lts.Need-extend-requires (branch-claims t) (branch-at t) branch.Post
 branch-extend-requires t c κs =
-    let pre° = c .before .before .before .before .before .before .before .before .before .before .before .before .before .pre in
-    let highest° = c .before .before .before .before .before .before .before .highest in
-    let one° = c .before .before .before .before .before .before .one in
-    let without° = c .before .before .before .before .before .without in (
+    let pre° = c .before .before .before .before .before .before .before .before .before .before .before .before .before .before .pre in
+    let highest° = c .before .before .before .before .before .before .before .before .highest in
+    let one° = c .before .before .before .before .before .before .before .one in
+    let without° = c .before .before .before .before .before .before .without in (
       omega (arith, pre° .0, top-less (highest° .ensures .0) (one° .ensures) (without° .ensures)),
       (
         posed-half (top-bit (highest° .ensures .0)) (highest° .ensures .1) (one° .ensures) (without° .ensures) (pre° .1 .1 .0) (c .before .before .before .before .fix .ensures),
@@ -323,17 +335,17 @@ branch-same-length-4 t c = c .before .before .over .given
 
 branch-returns : (t : ℕ) → branch-lts.Need-returns (branch-claims t) (branch-at t) branch.Post
 branch-returns t c =
-    let highest° = c .before .before .before .before .before .before .before .before .before .before .before .before .before .before .before .before .before .highest in
+    let highest° = c .before .before .before .before .before .before .before .before .before .before .before .before .before .before .before .before .before .before .highest in
     let extend° = c .before .before .before .before .before .before .before .before .before .extend in (
       (
-        rw (c .if1 .taken) (low-found (highest° .ensures .0) (highest° .ensures .1) (c .before .before .before .before .before .before .before .before .before .before .before .before .before .before .before .before .one .ensures) (c .before .before .before .before .before .before .before .before .before .before .before .before .before .before .before .without .ensures) (c .before .before .before .before .before .before .before .before .before .before .before .before .before .before .before .before .before .before .before .before .before .before .before .pre .1 .1 .0 .free) (c .before .before .before .before .before .before .before .before .before .before .before .before .before .before .fix .ensures) (rw (c .if1 .taken) at (extend° .ensures .0 .0))),
+        rw (c .if1 .taken) (first-met (highest° .ensures .0) (highest° .ensures .1) (c .before .before .before .before .before .before .before .before .before .before .before .before .before .before .before .before .before .one .ensures) (c .before .before .before .before .before .before .before .before .before .before .before .before .before .before .before .before .without .ensures) (c .before .before .before .before .before .before .before .before .before .before .before .before .before .before .before .before .before .before .before .before .before .before .before .before .pre .1 .1 .0 .free) _ (c .before .before .before .before .before .before .before .before .before .before .before .before .before .before .before .one-first .ensures) (c .before .before .before .before .before .before .before .before .before .before .before .before .before .before .fix .ensures) (rw (c .if1 .taken) at (extend° .ensures .0 .0))),
         extend° .ensures .0 .1,
       ),
       extend° .ensures .1,
     )
 
 branch-has-requires : (t : ℕ) → branch-lts.Need-has-requires (branch-claims t) (branch-at t) branch.Post
-branch-has-requires t c κs = c .before .before .before .before .before .before .before .before .before .before .before .before .before .before .before .before .before .highest .ensures .1
+branch-has-requires t c κs = c .before .before .before .before .before .before .before .before .before .before .before .before .before .before .before .before .before .before .highest .ensures .1
 
 branch-same-length-5 : (t : ℕ) → branch-lts.Need-same-length-5 (branch-claims t) (branch-at t) branch.Post
 branch-same-length-5 t c = c .before .before .before .before .before .before .before .before .before .before .cells .given
@@ -350,10 +362,10 @@ branch-same-length-8 t c = c .before .before .before .before .over .given
 branch-returns-2 : (t : ℕ) → branch-lts.Need-returns-2 (branch-claims t) (branch-at t) branch.Post
 branch-returns-2 t c =
     let if1° = c .before .before .if1 in
-    let highest° = c .before .before .before .before .before .before .before .before .before .before .before .before .before .before .before .before .before .before .before .highest in
+    let highest° = c .before .before .before .before .before .before .before .before .before .before .before .before .before .before .before .before .before .before .before .before .highest in
     let extend° = c .before .before .before .before .before .before .before .before .before .before .before .extend in (
       (
-        rw (if1° .left) (low-lost (highest° .ensures .0) (highest° .ensures .1) (c .before .before .before .before .before .before .before .before .before .before .before .before .before .before .before .before .before .before .one .ensures) (c .before .before .before .before .before .before .before .before .before .before .before .before .before .before .before .before .before .without .ensures) (c .before .before .before .before .before .before .before .before .before .before .before .before .before .before .before .before .before .before .before .before .before .before .before .before .before .pre .1 .1 .0 .free) (c .before .before .before .before .before .before .before .before .before .before .before .before .before .before .before .before .fix .ensures) (rw (if1° .left) at (extend° .ensures .0 .0)) (sym (c .before .has .ensures) ∙ not-true _ (c .if2 .taken))),
+        rw (if1° .left) (half-lost (highest° .ensures .0) (highest° .ensures .1) (c .before .before .before .before .before .before .before .before .before .before .before .before .before .before .before .before .before .before .before .one .ensures) (c .before .before .before .before .before .before .before .before .before .before .before .before .before .before .before .before .before .before .without .ensures) (c .before .before .before .before .before .before .before .before .before .before .before .before .before .before .before .before .before .before .before .before .before .before .before .before .before .before .pre .1 .1 .0 .free) _ (c .before .before .before .before .before .before .before .before .before .before .before .before .before .before .before .before .fix .ensures) (rw (if1° .left) at (extend° .ensures .0 .0)) (sym (c .before .has .ensures) ∙ not-true _ (c .if2 .taken))),
         extend° .ensures .0 .1,
       ),
       extend° .ensures .1,
@@ -364,10 +376,10 @@ branch-fix-requires-2 t c κs = search needs
 
 branch-extend-requires-2 : (t : ℕ) → branch-lts.Need-extend-requires-2 (branch-claims t) (branch-at t) branch.Post
 branch-extend-requires-2 t c κs =
-    let pre° = c .before .before .before .before .before .before .before .before .before .before .before .before .before .before .before .before .before .before .before .before .before .before .before .before .before .before .before .before .before .before .before .pre in
-    let highest° = c .before .before .before .before .before .before .before .before .before .before .before .before .before .before .before .before .before .before .before .before .before .before .before .before .before .highest in
-    let one° = c .before .before .before .before .before .before .before .before .before .before .before .before .before .before .before .before .before .before .before .before .before .before .before .before .one in
-    let without° = c .before .before .before .before .before .before .before .before .before .before .before .before .before .before .before .before .before .before .before .before .before .before .before .without in
+    let pre° = c .before .before .before .before .before .before .before .before .before .before .before .before .before .before .before .before .before .before .before .before .before .before .before .before .before .before .before .before .before .before .before .before .pre in
+    let highest° = c .before .before .before .before .before .before .before .before .before .before .before .before .before .before .before .before .before .before .before .before .before .before .before .before .before .before .highest in
+    let one° = c .before .before .before .before .before .before .before .before .before .before .before .before .before .before .before .before .before .before .before .before .before .before .before .before .before .one in
+    let without° = c .before .before .before .before .before .before .before .before .before .before .before .before .before .before .before .before .before .before .before .before .before .before .before .before .without in
     let extend° = c .before .before .before .before .before .before .before .before .before .before .before .before .before .before .before .before .before .extend in (
       omega (arith, pre° .0, top-less (highest° .ensures .0) (one° .ensures) (without° .ensures)),
       (
@@ -390,18 +402,18 @@ branch-same-length-12 t c = c .before .before .over2 .given ∙ c .before .befor
 
 branch-returns-3 : (t : ℕ) → branch-lts.Need-returns-3 (branch-claims t) (branch-at t) branch.Post
 branch-returns-3 t c =
-    let highest° = c .before .before .before .before .before .before .before .before .before .before .before .before .before .before .before .before .before .before .before .before .before .before .before .before .before .before .before .before .before .before .before .before .before .before .before .highest in
+    let highest° = c .before .before .before .before .before .before .before .before .before .before .before .before .before .before .before .before .before .before .before .before .before .before .before .before .before .before .before .before .before .before .before .before .before .before .before .before .highest in
     let extend° = c .before .before .before .before .before .before .before .before .before .before .before .before .before .before .before .before .before .before .before .before .before .before .before .before .before .before .before .extend in
     let extend2° = c .before .before .before .before .before .before .before .before .before .extend2 in (
       (
-        rw (c .if3 .taken) (high-found (highest° .ensures .0) (highest° .ensures .1) (c .before .before .before .before .before .before .before .before .before .before .before .before .before .before .before .before .before .before .before .before .before .before .before .before .before .before .before .before .before .before .before .before .before .before .one .ensures) (c .before .before .before .before .before .before .before .before .before .before .before .before .before .before .before .before .before .before .before .before .before .before .before .before .before .before .before .before .before .before .before .before .before .without .ensures) (c .before .before .before .before .before .before .before .before .before .before .before .before .before .before .before .before .before .before .before .before .before .before .before .before .before .before .before .before .before .before .before .before .before .before .before .before .before .before .before .before .before .pre .1 .1 .0 .free) (c .before .before .before .before .before .before .before .before .before .before .before .before .before .before .before .before .before .before .before .before .before .before .before .before .before .before .before .before .before .before .before .before .fix .ensures) (rw (c .before .before .before .before .before .before .before .before .before .before .before .before .before .before .before .before .before .before .if1 .left) at (extend° .ensures .0 .0)) (c .before .before .before .before .before .before .before .before .before .before .before .before .before .before .before .fix2 .ensures) (rw (c .if3 .taken) at (extend2° .ensures .0 .0))),
+        rw (c .if3 .taken) (second-met (highest° .ensures .0) (highest° .ensures .1) (c .before .before .before .before .before .before .before .before .before .before .before .before .before .before .before .before .before .before .before .before .before .before .before .before .before .before .before .before .before .before .before .before .before .before .before .one .ensures) (c .before .before .before .before .before .before .before .before .before .before .before .before .before .before .before .before .before .before .before .before .before .before .before .before .before .before .before .before .before .before .before .before .before .before .without .ensures) (c .before .before .before .before .before .before .before .before .before .before .before .before .before .before .before .before .before .before .before .before .before .before .before .before .before .before .before .before .before .before .before .before .before .before .before .before .before .before .before .before .before .before .pre .1 .1 .0 .free) _ (c .before .before .before .before .before .before .before .before .before .before .before .before .before .before .before .before .before .before .before .before .before .before .before .before .before .before .before .before .before .before .before .before .fix .ensures) (rw (c .before .before .before .before .before .before .before .before .before .before .before .before .before .before .before .before .before .before .if1 .left) at (extend° .ensures .0 .0)) (c .before .before .before .before .before .before .before .before .before .before .before .before .before .before .before .fix2 .ensures) (rw (c .if3 .taken) at (extend2° .ensures .0 .0))),
         extend2° .ensures .0 .1 ∙ extend° .ensures .0 .1,
       ),
       tables-then (extend° .ensures .1) (extend2° .ensures .1),
     )
 
 branch-has-requires-2 : (t : ℕ) → branch-lts.Need-has-requires-2 (branch-claims t) (branch-at t) branch.Post
-branch-has-requires-2 t c κs = c .before .before .before .before .before .before .before .before .before .before .before .before .before .before .before .before .before .before .before .before .before .before .before .before .before .before .before .before .before .before .before .before .before .before .before .highest .ensures .1
+branch-has-requires-2 t c κs = c .before .before .before .before .before .before .before .before .before .before .before .before .before .before .before .before .before .before .before .before .before .before .before .before .before .before .before .before .before .before .before .before .before .before .before .before .highest .ensures .1
 
 branch-same-length-13 : (t : ℕ) → branch-lts.Need-same-length-13 (branch-claims t) (branch-at t) branch.Post
 branch-same-length-13 t c = c .before .before .before .before .before .before .before .before .before .before .cells2 .given ∙ c .before .before .before .before .before .before .before .before .before .before .before .before .before .before .before .before .before .before .before .before .before .before .before .before .before .before .before .before .cells .given
@@ -418,11 +430,11 @@ branch-same-length-16 t c = c .before .before .before .before .over2 .given ∙ 
 branch-returns-4 : (t : ℕ) → branch-lts.Need-returns-4 (branch-claims t) (branch-at t) branch.Post
 branch-returns-4 t c =
     let if3° = c .before .before .if3 in
-    let highest° = c .before .before .before .before .before .before .before .before .before .before .before .before .before .before .before .before .before .before .before .before .before .before .before .before .before .before .before .before .before .before .before .before .before .before .before .before .before .highest in
+    let highest° = c .before .before .before .before .before .before .before .before .before .before .before .before .before .before .before .before .before .before .before .before .before .before .before .before .before .before .before .before .before .before .before .before .before .before .before .before .before .before .highest in
     let extend2° = c .before .before .before .before .before .before .before .before .before .before .before .extend2 in
     let extend° = c .before .before .before .before .before .before .before .before .before .before .before .before .before .before .before .before .before .before .before .before .before .before .before .before .before .before .before .before .before .extend in (
       (
-        rw (if3° .left) (high-lost (highest° .ensures .0) (highest° .ensures .1) (c .before .before .before .before .before .before .before .before .before .before .before .before .before .before .before .before .before .before .before .before .before .before .before .before .before .before .before .before .before .before .before .before .before .before .before .before .one .ensures) (c .before .before .before .before .before .before .before .before .before .before .before .before .before .before .before .before .before .before .before .before .before .before .before .before .before .before .before .before .before .before .before .before .before .before .before .without .ensures) (c .before .before .before .before .before .before .before .before .before .before .before .before .before .before .before .before .before .before .before .before .before .before .before .before .before .before .before .before .before .before .before .before .before .before .before .before .before .before .before .before .before .before .before .pre .1 .1 .0 .free) (c .before .before .before .before .before .before .before .before .before .before .before .before .before .before .before .before .before .fix2 .ensures) (rw (if3° .left) at (extend2° .ensures .0 .0)) (sym (c .before .has2 .ensures) ∙ not-true _ (c .if4 .taken))),
+        rw (if3° .left) (half-lost (highest° .ensures .0) (highest° .ensures .1) (c .before .before .before .before .before .before .before .before .before .before .before .before .before .before .before .before .before .before .before .before .before .before .before .before .before .before .before .before .before .before .before .before .before .before .before .before .before .one .ensures) (c .before .before .before .before .before .before .before .before .before .before .before .before .before .before .before .before .before .before .before .before .before .before .before .before .before .before .before .before .before .before .before .before .before .before .before .before .without .ensures) (c .before .before .before .before .before .before .before .before .before .before .before .before .before .before .before .before .before .before .before .before .before .before .before .before .before .before .before .before .before .before .before .before .before .before .before .before .before .before .before .before .before .before .before .before .pre .1 .1 .0 .free) _ (c .before .before .before .before .before .before .before .before .before .before .before .before .before .before .before .before .before .fix2 .ensures) (rw (if3° .left) at (extend2° .ensures .0 .0)) (sym (c .before .has2 .ensures) ∙ not-true _ (c .if4 .taken))),
         extend2° .ensures .0 .1 ∙ extend° .ensures .0 .1,
       ),
       tables-then (extend° .ensures .1) (extend2° .ensures .1),
@@ -445,11 +457,11 @@ branch-same-length-20 t c = c .before .before .before .before .before .before .b
 
 branch-returns-5 : (t : ℕ) → branch-lts.Need-returns-5 (branch-claims t) (branch-at t) branch.Post
 branch-returns-5 t c =
-    let highest° = c .before .before .before .before .before .before .before .before .before .before .before .before .before .before .before .before .before .before .before .before .before .before .before .before .before .before .before .before .before .before .before .before .before .before .before .before .before .before .before .before .before .highest in
+    let highest° = c .before .before .before .before .before .before .before .before .before .before .before .before .before .before .before .before .before .before .before .before .before .before .before .before .before .before .before .before .before .before .before .before .before .before .before .before .before .before .before .before .before .before .highest in
     let extend° = c .before .before .before .before .before .before .before .before .before .before .before .before .before .before .before .before .before .before .before .before .before .before .before .before .before .before .before .before .before .before .before .before .before .extend in
     let extend2° = c .before .before .before .before .before .before .before .before .before .before .before .before .before .before .before .extend2 in (
       (
-        both-lost (highest° .ensures .0) (highest° .ensures .1) (c .before .before .before .before .before .before .before .before .before .before .before .before .before .before .before .before .before .before .before .before .before .before .before .before .before .before .before .before .before .before .before .before .before .before .before .before .before .before .before .before .one .ensures) (c .before .before .before .before .before .before .before .before .before .before .before .before .before .before .before .before .before .before .before .before .before .before .before .before .before .before .before .before .before .before .before .before .before .before .before .before .before .before .before .without .ensures) (c .before .before .before .before .before .before .before .before .before .before .before .before .before .before .before .before .before .before .before .before .before .before .before .before .before .before .before .before .before .before .before .before .before .before .before .before .before .before .before .before .before .before .before .before .before .before .before .pre .1 .1 .0 .free) (c .before .before .before .before .before .before .before .before .before .before .before .before .before .before .before .before .before .before .before .before .before .before .before .before .before .before .before .before .before .before .before .before .before .before .before .before .before .before .fix .ensures) (rw (c .before .before .before .before .before .before .before .before .before .before .before .before .before .before .before .before .before .before .before .before .before .before .before .before .if1 .left) at (extend° .ensures .0 .0)) (c .before .before .before .before .before .before .before .before .before .before .before .before .before .before .before .before .before .before .before .before .before .fix2 .ensures) (rw (c .before .before .before .before .before .before .if3 .left) at (extend2° .ensures .0 .0)) (c .without2 .ensures),
+        both-lost (highest° .ensures .0) (highest° .ensures .1) (c .before .before .before .before .before .before .before .before .before .before .before .before .before .before .before .before .before .before .before .before .before .before .before .before .before .before .before .before .before .before .before .before .before .before .before .before .before .before .before .before .before .one .ensures) (c .before .before .before .before .before .before .before .before .before .before .before .before .before .before .before .before .before .before .before .before .before .before .before .before .before .before .before .before .before .before .before .before .before .before .before .before .before .before .before .before .without .ensures) (c .before .before .before .before .before .before .before .before .before .before .before .before .before .before .before .before .before .before .before .before .before .before .before .before .before .before .before .before .before .before .before .before .before .before .before .before .before .before .before .before .before .before .before .before .before .before .before .before .pre .1 .1 .0 .free) _ (c .before .before .before .before .before .before .before .before .before .before .before .before .before .before .before .before .before .before .before .before .before .before .before .before .before .before .before .before .before .before .before .before .before .before .before .before .before .before .fix .ensures) (rw (c .before .before .before .before .before .before .before .before .before .before .before .before .before .before .before .before .before .before .before .before .before .before .before .before .if1 .left) at (extend° .ensures .0 .0)) (c .before .before .before .before .before .before .before .before .before .before .before .before .before .before .before .before .before .before .before .before .before .fix2 .ensures) (rw (c .before .before .before .before .before .before .if3 .left) at (extend2° .ensures .0 .0)) (c .without2 .ensures),
         extend2° .ensures .0 .1 ∙ extend° .ensures .0 .1,
       ),
       tables-then (extend° .ensures .1) (extend2° .ensures .1),
@@ -586,23 +598,55 @@ choose-extend-requires t c κs =
       ),
     )
 
+choose-implicant-requires : (t : ℕ) → choose-lts.Need-implicant-requires (choose-claims t) (choose-at t) choose.Post
+choose-implicant-requires t c κs =
+    let pre° = c .before .before .before .before .before .before .before .before .before .before .before .before .before .before .before .before .before .before .before .before .before .before .pre in
+    let ground° = pre° .1 .1 .0 .ground in (
+      ground°,
+      omega (arith, ground° .room, pre° .1 .1 .0 .here, binds-below ground° (pre° .1 .0 .0) (pre° .1 .0 .1)),
+      omega (arith, pre° .1 .1 .1 .long, c .before .before .before .before .before .before .before .wants .given),
+      rw (c .before .before .before .before .before .before .before .before .before .before .before .before .before .before .before .decided .ensures) (decides-some _),
+    )
+
 choose-same-length : (t : ℕ) → choose-lts.Need-same-length (choose-claims t) (choose-at t) choose.Post
-choose-same-length t c = c .before .before .before .before .before .before .before .cells .given
+choose-same-length t c = c .before .before .before .before .before .before .before .before .before .before .before .before .before .cells .given
 
 choose-same-length-2 : (t : ℕ) → choose-lts.Need-same-length-2 (choose-claims t) (choose-at t) choose.Post
-choose-same-length-2 t c = c .before .before .before .before .before .wants .given
+choose-same-length-2 t c = c .before .before .wants2 .given ∙ c .before .before .before .before .before .before .before .before .before .before .before .wants .given
 
 choose-same-length-3 : (t : ℕ) → choose-lts.Need-same-length-3 (choose-claims t) (choose-at t) choose.Post
-choose-same-length-3 t c = c .before .before .before .under .given
+choose-same-length-3 t c = c .before .before .before .before .before .before .before .before .before .under .given
 
 choose-same-length-4 : (t : ℕ) → choose-lts.Need-same-length-4 (choose-claims t) (choose-at t) choose.Post
-choose-same-length-4 t c = c .before .over .given
+choose-same-length-4 t c = c .before .before .before .before .before .before .before .over .given
 
 choose-returns : (t : ℕ) → choose-lts.Need-returns (choose-claims t) (choose-at t) choose.Post
 choose-returns t c =
-    let extend° = c .before .before .before .before .before .before .before .before .extend in (
+    let extend° = c .before .before .before .before .before .before .before .before .before .before .before .before .before .before .extend in (
       (
-        rw (c .before .before .before .before .before .before .before .before .before .before .before .before .before .decided .ensures, c .before .before .before .before .before .before .before .before .before .before .before .before .before .before .free-all .ensures .values) at (extend° .ensures .0 .0),
+        rw (c .before .before .before .before .before .before .before .before .before .before .before .before .before .before .before .before .before .before .before .decided .ensures, c .before .before .before .before .before .before .before .before .before .before .before .before .before .before .before .before .before .before .before .before .free-all .ensures .values) at (met-other (rw (c .before .before .before .before .before .if1 .taken) at (extend° .ensures .0 .0)) (c .before .before .before .implicant .ensures .0)),
+        extend° .ensures .0 .1,
+      ),
+      extend° .ensures .1,
+    )
+
+choose-same-length-5 : (t : ℕ) → choose-lts.Need-same-length-5 (choose-claims t) (choose-at t) choose.Post
+choose-same-length-5 t c = c .before .before .before .before .before .before .before .before .cells .given
+
+choose-same-length-6 : (t : ℕ) → choose-lts.Need-same-length-6 (choose-claims t) (choose-at t) choose.Post
+choose-same-length-6 t c = c .before .before .before .before .before .before .wants .given
+
+choose-same-length-7 : (t : ℕ) → choose-lts.Need-same-length-7 (choose-claims t) (choose-at t) choose.Post
+choose-same-length-7 t c = c .before .before .before .before .under .given
+
+choose-same-length-8 : (t : ℕ) → choose-lts.Need-same-length-8 (choose-claims t) (choose-at t) choose.Post
+choose-same-length-8 t c = c .before .before .over .given
+
+choose-returns-2 : (t : ℕ) → choose-lts.Need-returns-2 (choose-claims t) (choose-at t) choose.Post
+choose-returns-2 t c =
+    let extend° = c .before .before .before .before .before .before .before .before .before .extend in (
+      (
+        rw (c .before .before .before .before .before .before .before .before .before .before .before .before .before .before .decided .ensures, c .before .before .before .before .before .before .before .before .before .before .before .before .before .before .before .free-all .ensures .values) at (extend° .ensures .0 .0),
         extend° .ensures .0 .1,
       ),
       extend° .ensures .1,
@@ -863,35 +907,51 @@ gate-returns-3 t c =
 push-force-requires : (t : ℕ) → push-lts.Need-force-requires (push-claims t) (push-at t) push.Post
 push-force-requires t c κs =
     let pre° = c .before .before .before .before .before .before .before .before .pre in
-    (pre° .1 .1 .0, refl, pre° .1 .1 .1 .long)
+    (pre° .1 .1 .0, refl, omega (arith, pre° .1 .1 .1 .long))
+
+push-solve-requires : (t : ℕ) → push-lts.Need-solve-requires (push-claims t) (push-at t) push.Post
+push-solve-requires t c κs =
+    let pre° = c .before .before .before .before .before .before .before .before .before .before .before .before .before .before .before .pre in
+    (pre° .1 .1 .0, omega (arith, pre° .1 .1 .1 .long, c .before .before .before .before .before .before .force .ensures .1))
+
+push-same-length : (t : ℕ) → push-lts.Need-same-length (push-claims t) (push-at t) push.Post
+push-same-length t c = refl
+
+push-same-length-2 : (t : ℕ) → push-lts.Need-same-length-2 (push-claims t) (push-at t) push.Post
+push-same-length-2 t c = c .before .before .wants2 .given ∙ c .before .before .before .before .before .before .before .before .before .wants .given
+
+push-returns : (t : ℕ) → push-lts.Need-returns (push-claims t) (push-at t) push.Post
+push-returns t c =
+    let solve° = c .before .before .before .solve in
+    ((solve° .ensures .0 (c .if2 .taken), refl), tables-same (c .before .before .before .before .before .before .before .before .before .before .before .before .before .before .before .before .before .before .before .pre .1 .1 .1 .tables))
 
 push-branch-requires : (t : ℕ) → push-lts.Need-branch-requires (push-claims t) (push-at t) push.Post
 push-branch-requires t c κs =
-    let pre° = c .before .before .before .before .before .before .before .before .before .before .before .before .before .before .before .before .before .pre in (
+    let pre° = c .before .before .before .before .before .before .before .before .before .before .before .before .before .before .before .before .before .before .before .before .before .before .before .pre in (
       omega (arith, pre° .0),
       (
         pre° .1 .0,
         (
           pre° .1 .1 .0,
-          lent-after (pre° .1 .1 .1) (tables-same (pre° .1 .1 .1 .tables)) (c .before .before .before .before .before .before .before .before .force .ensures .1),
+          lent-after (pre° .1 .1 .1) (tables-same (pre° .1 .1 .1 .tables)) (c .before .before .before .before .before .before .before .solve .ensures .1 ∙ c .before .before .before .before .before .before .before .before .before .before .before .before .before .before .force .ensures .1),
         ),
       ),
     )
 
-push-same-length : (t : ℕ) → push-lts.Need-same-length (push-claims t) (push-at t) push.Post
-push-same-length t c = c .before .before .before .before .before .before .before .cells .given
-
-push-same-length-2 : (t : ℕ) → push-lts.Need-same-length-2 (push-claims t) (push-at t) push.Post
-push-same-length-2 t c = c .before .before .before .before .before .wants2 .given ∙ c .before .before .before .before .before .before .before .before .before .before .before .before .before .before .before .before .wants .given
-
 push-same-length-3 : (t : ℕ) → push-lts.Need-same-length-3 (push-claims t) (push-at t) push.Post
-push-same-length-3 t c = c .before .before .before .under .given
+push-same-length-3 t c = c .before .before .before .before .before .before .before .cells .given
 
 push-same-length-4 : (t : ℕ) → push-lts.Need-same-length-4 (push-claims t) (push-at t) push.Post
-push-same-length-4 t c = c .before .over .given
+push-same-length-4 t c = c .before .before .before .before .before .wants3 .given ∙ c .before .before .before .before .before .before .before .before .before .before .before .before .before .before .before .wants2 .given ∙ c .before .before .before .before .before .before .before .before .before .before .before .before .before .before .before .before .before .before .before .before .before .before .wants .given
 
-push-returns : (t : ℕ) → push-lts.Need-returns (push-claims t) (push-at t) push.Post
-push-returns t c =
+push-same-length-5 : (t : ℕ) → push-lts.Need-same-length-5 (push-claims t) (push-at t) push.Post
+push-same-length-5 t c = c .before .before .before .under .given
+
+push-same-length-6 : (t : ℕ) → push-lts.Need-same-length-6 (push-claims t) (push-at t) push.Post
+push-same-length-6 t c = c .before .over .given
+
+push-returns-2 : (t : ℕ) → push-lts.Need-returns-2 (push-claims t) (push-at t) push.Post
+push-returns-2 t c =
     let branch° = c .before .before .before .before .before .before .before .before .branch in (
       (
         branch° .ensures .0 .0,
@@ -915,24 +975,24 @@ push-extend-requires t c κs =
       ),
     )
 
-push-same-length-5 : (t : ℕ) → push-lts.Need-same-length-5 (push-claims t) (push-at t) push.Post
-push-same-length-5 t c = c .before .before .before .before .before .before .before .before .cells2 .given
-
-push-same-length-6 : (t : ℕ) → push-lts.Need-same-length-6 (push-claims t) (push-at t) push.Post
-push-same-length-6 t c = c .before .before .before .before .before .before .wants3 .given ∙ c .before .before .before .before .before .before .before .before .before .before .before .before .before .before .before .before .before .before .before .before .before .before .wants .given
-
 push-same-length-7 : (t : ℕ) → push-lts.Need-same-length-7 (push-claims t) (push-at t) push.Post
-push-same-length-7 t c = c .before .before .before .before .under2 .given
+push-same-length-7 t c = c .before .before .before .before .before .before .before .before .cells2 .given
 
 push-same-length-8 : (t : ℕ) → push-lts.Need-same-length-8 (push-claims t) (push-at t) push.Post
-push-same-length-8 t c = c .before .before .over2 .given
+push-same-length-8 t c = c .before .before .before .before .before .before .wants4 .given ∙ c .before .before .before .before .before .before .before .before .before .before .before .before .before .before .before .before .before .before .before .before .before .before .wants .given
 
-push-returns-2 : (t : ℕ) → push-lts.Need-returns-2 (push-claims t) (push-at t) push.Post
-push-returns-2 t c =
+push-same-length-9 : (t : ℕ) → push-lts.Need-same-length-9 (push-claims t) (push-at t) push.Post
+push-same-length-9 t c = c .before .before .before .before .under2 .given
+
+push-same-length-10 : (t : ℕ) → push-lts.Need-same-length-10 (push-claims t) (push-at t) push.Post
+push-same-length-10 t c = c .before .before .over2 .given
+
+push-returns-3 : (t : ℕ) → push-lts.Need-returns-3 (push-claims t) (push-at t) push.Post
+push-returns-3 t c =
     let force° = c .before .before .before .before .before .before .before .before .before .before .before .before .before .before .before .before .before .before .before .before .before .before .before .force in
     let extend° = c .before .before .before .before .before .before .before .before .before .extend in (
       (
-        rw (c .if2 .taken) (forced-found (force° .ensures .0) (c .before .before .before .before .before .before .before .before .before .before .before .before .before .before .before .before .before .before .before .before .before .before .before .before .before .before .before .before .before .before .before .before .pre .1 .1 .0 .free) (c .before .before .before .before .before .before .before .before .before .before .before .before .before .before .before .before .before .before .without .ensures) refl refl (rw (c .if2 .taken) at (extend° .ensures .0 .0))),
+        rw (c .if3 .taken) (forced-met (force° .ensures .0) (c .before .before .before .before .before .before .before .before .before .before .before .before .before .before .before .before .before .before .before .before .before .before .before .before .before .before .before .before .before .before .before .before .pre .1 .1 .0 .free) (c .before .before .before .before .before .before .before .before .before .before .before .before .before .before .before .before .before .before .without .ensures) refl refl (rw (c .if3 .taken) at (extend° .ensures .0 .0))),
         extend° .ensures .0 .1,
       ),
       extend° .ensures .1,
@@ -944,24 +1004,24 @@ push-gather-requires t c κs = search needs
 push-without-requires-2 : (t : ℕ) → push-lts.Need-without-requires-2 (push-claims t) (push-at t) push.Post
 push-without-requires-2 t c κs = search needs
 
-push-same-length-9 : (t : ℕ) → push-lts.Need-same-length-9 (push-claims t) (push-at t) push.Post
-push-same-length-9 t c = c .before .before .before .before .before .before .before .before .before .before .before .before .before .before .cells2 .given
-
-push-same-length-10 : (t : ℕ) → push-lts.Need-same-length-10 (push-claims t) (push-at t) push.Post
-push-same-length-10 t c = c .before .before .before .before .before .before .before .before .before .before .before .before .wants3 .given ∙ c .before .before .before .before .before .before .before .before .before .before .before .before .before .before .before .before .before .before .before .before .before .before .before .before .before .before .before .before .wants .given
-
 push-same-length-11 : (t : ℕ) → push-lts.Need-same-length-11 (push-claims t) (push-at t) push.Post
-push-same-length-11 t c = c .before .before .before .before .before .before .before .before .before .before .under2 .given
+push-same-length-11 t c = c .before .before .before .before .before .before .before .before .before .before .before .before .before .before .cells2 .given
 
 push-same-length-12 : (t : ℕ) → push-lts.Need-same-length-12 (push-claims t) (push-at t) push.Post
-push-same-length-12 t c = c .before .before .before .before .before .before .before .before .over2 .given
+push-same-length-12 t c = c .before .before .before .before .before .before .before .before .before .before .before .before .wants4 .given ∙ c .before .before .before .before .before .before .before .before .before .before .before .before .before .before .before .before .before .before .before .before .before .before .before .before .before .before .before .before .wants .given
 
-push-returns-3 : (t : ℕ) → push-lts.Need-returns-3 (push-claims t) (push-at t) push.Post
-push-returns-3 t c =
+push-same-length-13 : (t : ℕ) → push-lts.Need-same-length-13 (push-claims t) (push-at t) push.Post
+push-same-length-13 t c = c .before .before .before .before .before .before .before .before .before .before .under2 .given
+
+push-same-length-14 : (t : ℕ) → push-lts.Need-same-length-14 (push-claims t) (push-at t) push.Post
+push-same-length-14 t c = c .before .before .before .before .before .before .before .before .over2 .given
+
+push-returns-4 : (t : ℕ) → push-lts.Need-returns-4 (push-claims t) (push-at t) push.Post
+push-returns-4 t c =
     let force° = c .before .before .before .before .before .before .before .before .before .before .before .before .before .before .before .before .before .before .before .before .before .before .before .before .before .before .before .before .before .force in
     let extend° = c .before .before .before .before .before .before .before .before .before .before .before .before .before .before .before .extend in (
       (
-        pushed-lost (c .before .before .before .before .before .before .before .before .before .before .before .before .before .before .before .before .before .before .before .before .before .before .before .before .before .before .before .before .before .before .before .before .before .before .before .before .before .before .pre .1 .1 .0) (force° .ensures .0) (c .before .before .before .before .before .before .before .before .before .before .before .before .before .before .before .before .before .before .before .before .before .before .before .before .without .ensures) refl refl (rw (c .before .before .before .before .before .before .if2 .left) at (extend° .ensures .0 .0)) refl (c .before .before .gather .ensures) (c .without2 .ensures) refl,
+        pushed-lost (c .before .before .before .before .before .before .before .before .before .before .before .before .before .before .before .before .before .before .before .before .before .before .before .before .before .before .before .before .before .before .before .before .before .before .before .before .before .before .pre .1 .1 .0) (force° .ensures .0) (c .before .before .before .before .before .before .before .before .before .before .before .before .before .before .before .before .before .before .before .before .before .before .before .before .without .ensures) refl refl (rw (c .before .before .before .before .before .before .if3 .left) at (extend° .ensures .0 .0)) refl (c .before .before .gather .ensures) (c .without2 .ensures) refl,
         extend° .ensures .0 .1,
       ),
       extend° .ensures .1,
@@ -1038,7 +1098,7 @@ settle-returns t c =
     let pre° = c .before .before .before .before .before .before .before .before .before .before .before .pre in
     let known-at° = c .before .before .before .before .known-at in (
       (
-        known-found (pre° .1 .0) (omega (arith, c .before .before .if1 .taken)) (judged-at (pre° .1 .0 .judged) (known-at° .ensures .0) (known-at° .ensures .1)) (c .if2 .taken),
+        known-met (pre° .1 .0) (omega (arith, c .before .before .if1 .taken)) (judged-at (pre° .1 .0 .judged) (known-at° .ensures .0) (known-at° .ensures .1)) (c .if2 .taken),
         refl,
       ),
       tables-same (pre° .1 .1 .tables),
@@ -1140,6 +1200,7 @@ pub +branch+candidate+check+choose+evaluate+extend+gate+push+quantified+settle-s
     (branch-highest-requires t)
     (branch-one-requires t)
     (branch-without-requires t)
+    (branch-one-first-requires t)
     (branch-fix-requires t)
     (branch-extend-requires t)
     (branch-same-length t)
@@ -1203,11 +1264,17 @@ pub +branch+candidate+check+choose+evaluate+extend+gate+push+quantified+settle-s
     (choose-free-all-requires t)
     (choose-decided-requires t)
     (choose-extend-requires t)
+    (choose-implicant-requires t)
     (choose-same-length t)
     (choose-same-length-2 t)
     (choose-same-length-3 t)
     (choose-same-length-4 t)
-    (choose-returns t))
+    (choose-returns t)
+    (choose-same-length-5 t)
+    (choose-same-length-6 t)
+    (choose-same-length-7 t)
+    (choose-same-length-8 t)
+    (choose-returns-2 t))
     (λ t. evaluate-lts.spec (evaluate-claims t) (evaluate-at t)
     evaluate.Post
     (evaluate-node-at-requires t)
@@ -1266,26 +1333,30 @@ pub +branch+candidate+check+choose+evaluate+extend+gate+push+quantified+settle-s
     (λ t. push-lts.spec (push-claims t) (push-at t)
     push.Post
     (push-force-requires t)
-    (push-branch-requires t)
+    (push-solve-requires t)
     (push-same-length t)
     (push-same-length-2 t)
+    (push-returns t)
+    (push-branch-requires t)
     (push-same-length-3 t)
     (push-same-length-4 t)
-    (push-returns t)
-    (push-without-requires t)
-    (push-extend-requires t)
     (push-same-length-5 t)
     (push-same-length-6 t)
+    (push-returns-2 t)
+    (push-without-requires t)
+    (push-extend-requires t)
     (push-same-length-7 t)
     (push-same-length-8 t)
-    (push-returns-2 t)
-    (push-gather-requires t)
-    (push-without-requires-2 t)
     (push-same-length-9 t)
     (push-same-length-10 t)
+    (push-returns-3 t)
+    (push-gather-requires t)
+    (push-without-requires-2 t)
     (push-same-length-11 t)
     (push-same-length-12 t)
-    (push-returns-3 t))
+    (push-same-length-13 t)
+    (push-same-length-14 t)
+    (push-returns-4 t))
     (λ t. quantified-lts.spec (quantified-claims t) (quantified-at t)
     quantified.Post
     (quantified-recorded-requires t)

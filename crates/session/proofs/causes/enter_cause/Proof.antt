@@ -3,8 +3,8 @@ use borrow.Author.Needs.{needs}
 use native.Mathlib.Omega.{arith}
 use mathlib.Core.Path.{sym, _∙_}
 use borrow.Author.Tests.{lt-ltb, le-ltb, not-true, not-false}
-use Rattle.session.specs.Model.{lastDesk}
-use Rattle.session.specs.Causes.{enterCause}
+use Rattle.model.specs.Model.{lastDesk}
+use Rattle.model.specs.Causes.{enterCause}
 use Rattle.session.proofs.causes.enter_cause.Statement.{statement}
 use Rattle.session.proofs.causes.enter_cause.Tie as tie
 

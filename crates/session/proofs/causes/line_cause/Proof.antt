@@ -2,7 +2,7 @@
 use borrow.Author.Needs.{needs}
 use mathlib.Core.Path.{sym, _∙_}
 use Rattle.session.specs.Sound.{length-standing}
-use Rattle.session.specs.Causes.{refusal-unknown, refusal-enter, refusal-take-back, refusal-read, refusal-search}
+use Rattle.model.specs.Causes.{refusal-unknown, refusal-enter, refusal-take-back, refusal-read, refusal-search}
 use Rattle.session.proofs.causes.line_cause.Statement.{statement}
 use Rattle.session.proofs.causes.line_cause.Tie as tie
 

@@ -1,7 +1,7 @@
 -- `session::causes::unknown` meets its contract.
 use borrow.Author.Needs.{needs}
 use borrow.Author.Tests.{lt-ltb, le-ltb}
-use Rattle.session.specs.Model.{unknown}
+use Rattle.model.specs.Model.{unknown}
 use Rattle.session.proofs.causes.unknown.Statement.{statement}
 use Rattle.session.proofs.causes.unknown.Tie as tie
 

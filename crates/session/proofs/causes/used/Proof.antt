@@ -1,6 +1,6 @@
 -- `session::causes::used` meets its contract.
 use borrow.Author.Tests.{eq-eqb, ne-eqb}
-use Rattle.session.specs.Model.{used}
+use Rattle.model.specs.Model.{used}
 use Rattle.session.proofs.causes.used.Statement.{statement}
 use Rattle.session.proofs.causes.used.Tie as tie
 

@@ -12,7 +12,7 @@ slice-aggregate-solve-in-2 : tie.Need-slice-aggregate-solve-in-2
 slice-aggregate-solve-in-2 c = search needs
 
 solve-in-requires : tie.Need-solve-in-requires
-solve-in-requires c κs = ((c .before .before .before .before .before .before .before .before .pre) .0, blank-scratch 406 ((c .before .before .before .before .before .before .before .before .pre) .1) refl refl)
+solve-in-requires c κs = ((c .before .before .before .before .before .before .before .before .pre) .0, blank-scratch 406 609 ((c .before .before .before .before .before .before .before .before .pre) .1) refl refl refl)
 
 same-length : tie.Need-same-length
 same-length c = search needs

@@ -1,0 +1,2 @@
+pub mod Implicant
+pub mod ImplicantLaws

@@ -1,0 +1,10 @@
+pub mod Pattern
+pub mod PatternLaws
+pub mod Lanes
+pub mod LanesLaws
+pub mod Marks
+pub mod MarksLaws
+pub mod Fill
+pub mod FillLaws
+pub mod Settle
+pub mod SettleLaws

@@ -1,0 +1,19 @@
+// The net of a checked sheet with the phase of each bound variable: which of its values a search tries first.
+mod choice;
+
+pub use choice::one_first;
+ghost use mathlib.Core.Path.{_≡_};
+ghost use Rattle.form.specs.Form.{formOf};
+ghost use Rattle.sheet.specs.Fields.{sheetOf};
+ghost use Rattle.sheet.specs.Rules as Rules;
+ghost use Rattle.net.specs.Sheet.{Checked, NetOf};
+ghost use Rattle.net.specs.Load.{Empty};
+
+// The net of a sheet, as net::load makes it, with phases.
+pub fn load(sheet: &[u8], wide: bool, free: u64, gauges: u64, net: &mut [u64])
+    requires { ⌜ Checked (sheetOf (formOf wide) (now sheet)) free × (gauges ≡ Rules.gauges (sheetOf (formOf wide) (now sheet))) × Empty (formOf wide) (now net) ⌝ }
+    ensures { λ _. ⌜ NetOf (sheetOf (formOf wide) (now (sheet .entry))) (now (net .exit)) ⌝ }
+{
+    net::load(sheet, wide, free, gauges, net);
+    choice::choose_phases(net);
+}
