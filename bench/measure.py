@@ -123,6 +123,11 @@ class Answer:
         self.seconds = seconds if verdict else limit
 
 
+def wide(name):
+    """Whether a family's or a sheet's name is a wide one's."""
+    return name.startswith("wide")
+
+
 def ask_ours(program, sheet, question, limit=LIMIT):
     """One call of the archive, in a process of its own that is stopped at the limit."""
     ended = Ended([program, sheet, question], limit)
@@ -136,9 +141,10 @@ def ask_ours(program, sheet, question, limit=LIMIT):
 
 def count_ours(program, sheet, question, limit=5 * LIMIT):
     """One call of the archive under valgrind: its seconds are instructions. Programs run some fifty times slower there."""
-    count = ["valgrind", "--tool=callgrind", "--callgrind-out-file=/dev/null", "--toggle-collect=hammerloom_run", "--log-fd=1"]
+    entry = "hammerloom_run_wide" if wide(sheet.name) else "hammerloom_run"
+    count = ["valgrind", "--tool=callgrind", "--callgrind-out-file=/dev/null", f"--toggle-collect={entry}", "--log-fd=1"]
     ended = Ended([*count, program, sheet, question, "once"], limit)
-    told = re.search(r"^(yes|no) ([0-9A-F]{8}) ", ended.printed, re.MULTILINE)
+    told = re.search(r"^(yes|no) ([0-9A-F]{8}|[0-9A-F]{16}) ", ended.printed, re.MULTILINE)
     counted = re.search(r"Collected : (\d+)", ended.printed)
     if ended.status == 0 and told and counted:
         return Answer(told[1], int(counted[1]), limit, told[2])

@@ -1,10 +1,9 @@
 //! A sheet while it is written. Equal frames are written once, and frames that the last one does not reach are left out.
 
+use crate::evaluator::form::Form;
 use std::collections::HashMap;
 use std::ops::Range;
 
-/// The most frames of a sheet.
-pub const MOST_FRAMES: usize = 200;
 /// The number of a frame that has been written.
 pub type Frame = usize;
 
@@ -15,15 +14,36 @@ const AND: usize = 3;
 const OR: usize = 4;
 const EXISTS: usize = 5;
 const FORALL: usize = 6;
+const GAUGE: usize = 7;
 
-#[derive(Default)]
 pub struct Builder {
+    form: Form,
     /// The fields K A B C of each frame.
     frames: Vec<[usize; 4]>,
     written: HashMap<[usize; 4], Frame>,
 }
 
+/// Of a narrow sheet.
+impl Default for Builder {
+    fn default() -> Builder {
+        Builder::new(Form::Narrow)
+    }
+}
+
 impl Builder {
+    fn new(form: Form) -> Builder {
+        Builder { form, frames: Vec::new(), written: HashMap::new() }
+    }
+
+    pub fn wide() -> Builder {
+        Builder::new(Form::Wide)
+    }
+
+    /// The most frames that the sheet may have.
+    pub fn most_frames(&self) -> usize {
+        self.form.most_frames()
+    }
+
     /// How many frames have been written.
     pub fn size(&self) -> usize {
         self.frames.len()
@@ -52,6 +72,15 @@ impl Builder {
 
     pub fn inputs(&mut self, variables: Range<usize>) -> Vec<Frame> {
         variables.map(|variable| self.input(variable)).collect()
+    }
+
+    /// An input whose variable is not ours to choose.
+    pub fn gauge(&mut self, variable: usize) -> Frame {
+        self.write([GAUGE, variable, 0, 0])
+    }
+
+    pub fn gauges(&mut self, variables: Range<usize>) -> Vec<Frame> {
+        variables.map(|variable| self.gauge(variable)).collect()
     }
 
     pub fn not(&mut self, frame: Frame) -> Frame {
@@ -200,16 +229,17 @@ impl Builder {
             }
         }
         let mut numbers = vec![0; last + 1];
-        let mut bytes = Vec::new();
+        let (mut bytes, mut count) = (Vec::new(), 0);
         for number in (0..=last).filter(|&number| reached[number]) {
-            numbers[number] = bytes.len() / 4;
+            numbers[number] = count;
+            count += 1;
             let mut frame = self.frames[number];
             for (field, named) in (1..).zip(self.named(number)) {
                 frame[field] = numbers[named];
             }
-            bytes.extend(frame.map(|field| field as u8));
+            bytes.extend(self.form.bytes(frame.map(|field| field as u16)));
         }
-        assert!(bytes.len() / 4 <= MOST_FRAMES, "a sheet of {} frames", bytes.len() / 4);
+        assert!(count <= self.most_frames(), "a sheet of {count} frames");
         bytes
     }
 
@@ -217,7 +247,7 @@ impl Builder {
     fn named(&self, number: Frame) -> impl Iterator<Item = Frame> {
         let [kind, a, b, _] = self.frames[number];
         let count = match kind {
-            NEVER | INPUT => 0,
+            NEVER | INPUT | GAUGE => 0,
             AND | OR => 2,
             _ => 1,
         };

@@ -67,13 +67,13 @@ fn usage() -> ExitCode {
     ExitCode::from(2)
 }
 
-fn accepted(bytes: &[u8]) -> io::Result<Sheet> {
-    sheet::check(Form::Narrow, bytes).map_err(|refusal| io::Error::other(format!("a sheet is refused: {refusal:?}")))
+fn accepted(form: Form, bytes: &[u8]) -> io::Result<Sheet> {
+    sheet::check(form, bytes).map_err(|refusal| io::Error::other(format!("a sheet is refused: {refusal:?}")))
 }
 
 /// FOLDER/NAME.sheet, .smt2 and, unless it would be too large, .qdimacs.
-fn write_sheet(folder: &Path, name: &str, bytes: &[u8]) -> io::Result<()> {
-    let sheet = accepted(bytes)?;
+fn write_sheet(folder: &Path, name: &str, form: Form, bytes: &[u8]) -> io::Result<()> {
+    let sheet = accepted(form, bytes)?;
     let file = |ending: &str| -> PathBuf { folder.join(format!("{name}.{ending}")) };
     fs::write(file("sheet"), bytes)?;
     fs::write(file("smt2"), smtlib::smtlib(&sheet))?;
@@ -89,7 +89,7 @@ fn write_families(folder: &Path) -> io::Result<()> {
     for family in FAMILIES {
         for index in 0..SHEETS {
             let name = format!("{}-{index}", family.name);
-            write_sheet(folder, &name, &family.sheet(index))?;
+            write_sheet(folder, &name, family.form, &family.sheet(index))?;
             list += &format!("{} {name}\n", family.name);
         }
     }
@@ -104,7 +104,7 @@ fn write_sweeps(folder: &Path) -> io::Result<()> {
         for &size in sweep.sizes {
             for index in 0..EACH {
                 let name = format!("{}-{}-{size}-{index}", sweep.name, sweep.axis);
-                write_sheet(folder, &name, &sweep.sheet(size, index))?;
+                write_sheet(folder, &name, sweep.form, &sweep.sheet(size, index))?;
                 list += &format!("{} {} {size} {name}\n", sweep.name, sweep.axis);
             }
         }
@@ -116,9 +116,9 @@ fn write_sweeps(folder: &Path) -> io::Result<()> {
 fn write_random(folder: &Path, count: usize, seed: u64) -> io::Result<()> {
     let mut list = String::new();
     for index in 0..count {
-        let bytes = check::random_sheet(seed, index as u64);
-        let verdict = if check::verdict(&bytes) { "yes" } else { "no" };
-        write_sheet(folder, &format!("random-{index}"), &bytes)?;
+        let (form, bytes) = check::random_sheet(seed, index as u64);
+        let verdict = if check::verdict(form, &bytes) { "yes" } else { "no" };
+        write_sheet(folder, &format!("random-{index}"), form, &bytes)?;
         list += &format!("{verdict} random-{index}\n");
     }
     fs::write(folder.join("list"), list)
@@ -142,14 +142,9 @@ fn convert(converter: impl Fn(&Sheet) -> Option<String>) -> io::Result<()> {
     if !text.contains("\n\n") {
         text.push('\n');
     }
-    let Reading { form: Form::Narrow, parts } = evaluator::text::read(text.as_bytes()) else {
-        return Err(io::Error::other("the sheet is a wide one"));
-    };
+    let Reading { form, parts } = evaluator::text::read(text.as_bytes());
     let (bytes, _) = parts.map_err(|refusal| io::Error::other(format!("the text is refused: {refusal:?}")))?;
-    let sheet = accepted(&bytes)?;
-    if sheet.gauges & sheet.open != 0 {
-        return Err(io::Error::other("the sheet has open gauges, which ASK does not choose"));
-    }
+    let sheet = accepted(form, &bytes)?;
     let converted = converter(&sheet).ok_or_else(|| io::Error::other("the prenex form is too large"))?;
     print!("{converted}");
     Ok(())

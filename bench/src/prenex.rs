@@ -7,7 +7,7 @@
 //! variables of its own for each polarity and for each copy of the scope around it.
 
 use crate::evaluator::sheet::{Kind, Range, Sheet};
-use crate::scope::{named, Scopes};
+use crate::scope::{named, Scopes, VARIABLES};
 use std::collections::HashMap;
 
 /// A gate or variable of the matrix, or its negation: twice the node's number, plus 1 if negated.
@@ -40,7 +40,8 @@ impl Signal {
 pub enum Node {
     /// Node 0.
     True,
-    /// A variable, bound at a level: even ones are existential, the open variables stand at level 0.
+    /// A variable, bound at a level: even ones are existential. The open variables stand at level 0, or if there are gauges among
+    /// them, these at level 1 and the others at level 2.
     Variable {
         level: u32,
         serial: u32,
@@ -57,6 +58,9 @@ pub struct Prenex {
 /// in both polarities, every level doubles the matrix.
 const MOST_NODES: usize = 200_000;
 
+/// The level of the open gauges, which are universal and stand outside all others.
+const GAUGES: u32 = 1;
+
 /// None if the matrix is too large.
 pub fn prenex(sheet: &Sheet) -> Option<Prenex> {
     let scopes = Scopes::of(sheet);
@@ -65,7 +69,8 @@ pub fn prenex(sheet: &Sheet) -> Option<Prenex> {
         let own = matches!(kind, Kind::Exists { .. } | Kind::Forall { .. });
         quantifies.push(own || named(*kind).into_iter().any(|frame| quantifies[frame]));
     }
-    let open = Copy { binder: None, level: 0, outer: None, first: 0 };
+    let level = if sheet.gauges & sheet.open == 0 { 0 } else { GAUGES + 1 };
+    let open = Copy { binder: None, level, outer: None, first: 0 };
     let mut work = Work {
         sheet,
         scopes,
@@ -74,7 +79,7 @@ pub fn prenex(sheet: &Sheet) -> Option<Prenex> {
         numbers: HashMap::new(),
         copies: vec![open],
         known: HashMap::new(),
-        serial: 32,
+        serial: VARIABLES as u32,
     };
     let matrix = work.signal(sheet.frames.len() - 1, true, 0)?;
     Some(Prenex { nodes: work.nodes, matrix })
@@ -140,6 +145,7 @@ impl Work<'_> {
 
     fn variable(&mut self, variable: u8, copy: usize) -> Signal {
         let Copy { binder, level, first, .. } = self.copies[copy];
+        let level = if self.sheet.gauges >> variable & 1 == 1 { GAUGES } else { level };
         let start = match binder.map(|binder| self.sheet.frames[binder]) {
             Some(Kind::Exists { binds, .. } | Kind::Forall { binds, .. }) => binds.first,
             _ => 0,

@@ -6,19 +6,22 @@
 
 use crate::evaluator::sheet::{open_variables, Kind, Sheet};
 
+/// Of a wide sheet; a narrow one has fewer.
+pub const VARIABLES: usize = 64;
+
 pub struct Scopes {
     /// The frames that the last one names, directly or through others, and the last one itself.
     pub reached: Vec<bool>,
     /// For each frame the quantified frame in whose body it belongs; none for the outermost scope.
     pub home: Vec<Option<usize>>,
     /// For each variable the reached frame that binds it.
-    pub binder: [Option<usize>; 32],
+    pub binder: [Option<usize>; VARIABLES],
 }
 
 impl Scopes {
     pub fn of(sheet: &Sheet) -> Scopes {
         let reached = reached(&sheet.frames);
-        let mut binder = [None; 32];
+        let mut binder = [None; VARIABLES];
         let mut open = Vec::new();
         for (number, kind) in sheet.frames.iter().enumerate() {
             open.push(open_variables(*kind, &open));
@@ -27,7 +30,7 @@ impl Scopes {
             }
         }
         // An inner quantified frame has the smaller number.
-        let innermost = |open: &u64| (0..32).filter(|v| open >> v & 1 == 1).filter_map(|v| binder[v]).min();
+        let innermost = |open: &u64| (0..VARIABLES).filter(|v| open >> v & 1 == 1).filter_map(|v| binder[v]).min();
         let home = open.iter().map(innermost).collect();
         Scopes { reached, home, binder }
     }

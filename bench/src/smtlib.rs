@@ -1,21 +1,39 @@
-//! A sheet's question "is there a setting of the open variables that makes the last frame true" in SMT-LIB 2, for z3 and cvc5.
-//! Each frame is written once, as a `let` in the scope where it belongs: sharing is kept.
+//! A sheet's question "is there a setting of the open variables that makes the last frame true" in SMT-LIB 2, for z3 and cvc5;
+//! with open gauges "is there for every setting of these one of the other open variables", with quantifiers for both. Each frame is written once, as a `let` in the scope where it belongs: sharing is kept.
 
 use crate::evaluator::sheet::{Kind, Range, Sheet};
-use crate::scope::Scopes;
+use crate::scope::{Scopes, VARIABLES};
 use std::fmt::Write;
 
 pub fn smtlib(sheet: &Sheet) -> String {
     let scopes = Scopes::of(sheet);
-    let quantifiers = scopes.binder.iter().any(|binder| binder.is_some());
+    let gauges = sheet.gauges & sheet.open;
+    let quantifiers = gauges != 0 || scopes.binder.iter().any(|binder| binder.is_some());
     // In this logic cvc5 instantiates quantifiers guided by counterexamples; in UF it gives up on most sheets.
     let logic = if quantifiers { "LIA" } else { "QF_UF" };
     let mut text = format!("(set-logic {logic})\n");
-    for variable in (0..32).filter(|variable| sheet.open >> variable & 1 == 1) {
-        writeln!(text, "(declare-const x{variable} Bool)").unwrap();
-    }
     let last = sheet.frames.len() - 1;
-    format!("{text}(assert {})\n(check-sat)\n", scope(sheet, &scopes, None, last))
+    let mut formula = scope(sheet, &scopes, None, last);
+    if gauges == 0 {
+        variables(sheet.open).for_each(|variable| writeln!(text, "(declare-const x{variable} Bool)").unwrap());
+    } else {
+        formula = bound("forall", gauges, &bound("exists", sheet.open & !gauges, &formula));
+    }
+    format!("{text}(assert {formula})\n(check-sat)\n")
+}
+
+/// The variables of a mask.
+fn variables(mask: u64) -> impl Iterator<Item = usize> {
+    (0..VARIABLES).filter(move |variable| mask >> variable & 1 == 1)
+}
+
+/// The formula under a quantifier of the mask's variables, if there are any.
+fn bound(word: &str, mask: u64, formula: &str) -> String {
+    let variables: Vec<String> = variables(mask).map(|variable| format!("(x{variable} Bool)")).collect();
+    if variables.is_empty() {
+        return formula.to_string();
+    }
+    format!("({word} ({}) {formula})", variables.join(" "))
 }
 
 /// The frames that belong to the scope, in their order, around the name of the scope's own frame.
@@ -41,6 +59,5 @@ fn term(sheet: &Sheet, scopes: &Scopes, number: usize) -> String {
 }
 
 fn quantified(word: &str, sheet: &Sheet, scopes: &Scopes, number: usize, body: usize, binds: Range) -> String {
-    let variables: Vec<String> = binds.variables().map(|variable| format!("(x{variable} Bool)")).collect();
-    format!("({word} ({}) {})", variables.join(" "), scope(sheet, scopes, Some(number), body))
+    bound(word, binds.mask(), &scope(sheet, scopes, Some(number), body))
 }

@@ -54,12 +54,15 @@ pub fn successor(_: &mut Rng, index: usize) -> Vec<u8> {
 
 /// For all x below the largest (in odd sheets: for all x) there is y above x; 4 to 16 bits.
 pub fn comparator(_: &mut Rng, index: usize) -> Vec<u8> {
-    let bits = [4, 6, 8, 11, 13, 16][index];
-    let mut b = Builder::default();
+    above(Builder::default(), [4, 6, 8, 11, 13, 16][index], index % 2 == 0)
+}
+
+/// For all x of so many bits, the largest perhaps spared, there is y above x.
+pub fn above(mut b: Builder, bits: usize, spared: bool) -> Vec<u8> {
     let (x, y) = (b.inputs(0..bits), b.inputs(bits..2 * bits));
     let above = b.below(&x, &y);
     let largest = b.all(&x);
-    let body = if index % 2 == 0 { b.or(above, largest) } else { above };
+    let body = if spared { b.or(above, largest) } else { above };
     let reply = b.exists(bits..2 * bits, body);
     let last = b.forall(0..bits, reply);
     b.finish(last)
@@ -96,14 +99,17 @@ pub fn difference(_: &mut Rng, index: usize) -> Vec<u8> {
 
 /// For all x, y, z: (x + y) + z = x + (y + z), 2 to 4 bits; in odd sheets one bit of the right side is taken from x instead.
 pub fn associative(_: &mut Rng, index: usize) -> Vec<u8> {
-    let bits = 2 + index / 2;
-    let mut b = Builder::default();
+    sums(Builder::default(), 2 + index / 2, index % 2 == 0)
+}
+
+/// The two sums of three numbers of so many bits, equal or with a bit taken from x.
+pub fn sums(mut b: Builder, bits: usize, equal: bool) -> Vec<u8> {
     let [x, y, z] = [0, 1, 2].map(|place| b.inputs(place * bits..(place + 1) * bits));
     let left = b.add(&x, &y);
     let left = b.add(&left[..bits], &z);
     let right = b.add(&y, &z);
     let mut right = b.add(&x, &right[..bits]);
-    if index % 2 == 1 {
+    if !equal {
         right[bits - 1] = x[bits - 1];
     }
     let same = b.same(&left[..bits], &right[..bits]);

@@ -1,7 +1,7 @@
 //! Cases that solvers are known to find hard, and cases that trip a careless one.
 
 use super::{cnf, some};
-use crate::builder::{Builder, Frame, MOST_FRAMES};
+use crate::builder::{Builder, Frame};
 use crate::rng::Rng;
 
 /// Pigeons into one hole fewer, from 3 to 6 pigeons: no setting of the open variables. In odd sheets one pigeon may stay out.
@@ -51,7 +51,7 @@ pub fn xor_system(rng: &mut Rng, index: usize) -> Vec<u8> {
     let mut b = Builder::default();
     let x = b.inputs(0..18);
     let mut rules = Vec::new();
-    while b.size() < MOST_FRAMES - 35 {
+    while b.size() < b.most_frames() - 35 {
         let three: Vec<Frame> = some(rng, 0..18, 3).into_iter().map(|variable| x[variable]).collect();
         let parity = b.parity(&three);
         rules.push(b.signed(parity, rng.percent(50)));
@@ -94,7 +94,7 @@ pub fn full_search(rng: &mut Rng, _: usize) -> Vec<u8> {
 pub fn doubling(_: &mut Rng, index: usize) -> Vec<u8> {
     let mut b = Builder::default();
     let mut frame = b.input(7);
-    while b.size() < MOST_FRAMES - 1 {
+    while b.size() < b.most_frames() - 1 {
         frame = match (index, b.size() % 2) {
             (2, 0) => b.not(frame),
             (1, _) | (3, 0) => b.or(frame, frame),

@@ -39,7 +39,11 @@ pub fn gauges(rng: &mut Rng, _: usize) -> Vec<u8> {
 /// sheets, 18 with more exclusions in odd ones.
 pub fn exclusions(rng: &mut Rng, index: usize) -> Vec<u8> {
     let (count, pairs) = if index % 2 == 0 { (30, 42) } else { (18, 62) };
-    let mut b = Builder::default();
+    excluding(Builder::default(), rng, count, pairs)
+}
+
+/// So many routes, and pairs of them that exclude each other.
+pub fn excluding(mut b: Builder, rng: &mut Rng, count: usize, pairs: usize) -> Vec<u8> {
     let routes = b.inputs(0..count);
     let mut rules = Vec::new();
     for group in routes.chunks(3) {
@@ -56,11 +60,15 @@ pub fn exclusions(rng: &mut Rng, index: usize) -> Vec<u8> {
 /// Five levers of four positions each, exactly one position at a time; positions that ask for each other, from sheet to sheet
 /// more.
 pub fn levers(rng: &mut Rng, index: usize) -> Vec<u8> {
-    let mut b = Builder::default();
-    let positions = b.inputs(0..20);
+    asking(Builder::default(), rng, 5, 18 + 2 * index)
+}
+
+/// So many levers, and pairs of their positions of which the first asks for the second.
+pub fn asking(mut b: Builder, rng: &mut Rng, levers: usize, pairs: usize) -> Vec<u8> {
+    let positions = b.inputs(0..4 * levers);
     let mut rules: Vec<Frame> = positions.chunks(4).map(|lever| b.exactly_one(lever)).collect();
-    for _ in 0..18 + 2 * index {
-        let pair = some(rng, 0..5, 2);
+    for _ in 0..pairs {
+        let pair = some(rng, 0..levers, 2);
         let [x, y] = [0, 1].map(|place| positions[pair[place] * 4 + rng.below(4)]);
         rules.push(b.implies(x, y));
     }
@@ -70,7 +78,7 @@ pub fn levers(rng: &mut Rng, index: usize) -> Vec<u8> {
 
 /// The stations can be served by the devices that are installed and have not failed: station k by any of three, and some
 /// devices not together.
-fn served(b: &mut Builder, rng: &mut Rng, use_: &[Frame], installed: &[Frame], failed: &[Frame]) -> Frame {
+pub fn served(b: &mut Builder, rng: &mut Rng, use_: &[Frame], installed: &[Frame], failed: &[Frame]) -> Frame {
     let mut rules = Vec::new();
     for device in 0..use_.len() {
         let not_failed = b.not(failed[device]);
@@ -91,15 +99,20 @@ fn served(b: &mut Builder, rng: &mut Rng, use_: &[Frame], installed: &[Frame], f
 /// For every failure of one device there is a fallback: which of ten devices are to be installed (open), if from some pairs
 /// only one can be? From sheet to sheet there are more such pairs.
 pub fn fallback(rng: &mut Rng, index: usize) -> Vec<u8> {
-    let mut b = Builder::default();
-    let (installed, failed, used) = (b.inputs(0..10), b.inputs(10..20), b.inputs(20..30));
+    installing(Builder::default(), rng, 10, 3 + 2 * index)
+}
+
+/// So many devices, and pairs of them of which one at most can be installed.
+pub fn installing(mut b: Builder, rng: &mut Rng, devices: usize, pairs: usize) -> Vec<u8> {
+    let [all, failing, using] = [0, 1, 2].map(|place| place * devices..(place + 1) * devices);
+    let (installed, failed, used) = (b.inputs(all.clone()), b.inputs(failing.clone()), b.inputs(using.clone()));
     let served = served(&mut b, rng, &used, &installed, &failed);
-    let fallback = b.exists(20..30, served);
+    let fallback = b.exists(using, served);
     let single = b.at_most_one(&failed);
     let answered = b.implies(single, fallback);
-    let mut rules = vec![b.forall(10..20, answered)];
-    for _ in 0..3 + 2 * index {
-        let pair = some(rng, 0..10, 2);
+    let mut rules = vec![b.forall(failing, answered)];
+    for _ in 0..pairs {
+        let pair = some(rng, all.clone(), 2);
         rules.push(b.apart(installed[pair[0]], installed[pair[1]]));
     }
     let all = b.all(&rules);

@@ -10,8 +10,7 @@ fn alternating(b: &mut Builder, variables: usize, matrix: Frame) -> Frame {
 }
 
 /// Clauses of one forall variable and two exists variables, at least one of these after it.
-fn alternation(rng: &mut Rng, variables: usize, clauses: usize) -> Vec<u8> {
-    let mut b = Builder::default();
+pub fn alternation(mut b: Builder, rng: &mut Rng, variables: usize, clauses: usize) -> Vec<u8> {
     let mut all = Vec::new();
     for _ in 0..clauses {
         let asked = 2 * rng.below(variables / 2);
@@ -27,18 +26,17 @@ fn alternation(rng: &mut Rng, variables: usize, clauses: usize) -> Vec<u8> {
 
 /// One quantifier per variable in alternation, 16 levels, before random clauses.
 pub fn alternation_16(rng: &mut Rng, index: usize) -> Vec<u8> {
-    alternation(rng, 16, 10 + 2 * index)
+    alternation(Builder::default(), rng, 16, 10 + 2 * index)
 }
 
 /// The same with 32 levels.
 pub fn alternation_32(rng: &mut Rng, index: usize) -> Vec<u8> {
-    alternation(rng, 32, 19 + 3 * index)
+    alternation(Builder::default(), rng, 32, 19 + 3 * index)
 }
 
 /// Each exists variable must equal a gate of two variables before it, so there is one reply to every question; in odd sheets
 /// the last one must be true as well.
-fn replies(rng: &mut Rng, variables: usize, index: usize) -> Vec<u8> {
-    let mut b = Builder::default();
+pub fn replies(mut b: Builder, rng: &mut Rng, variables: usize, index: usize) -> Vec<u8> {
     let mut rules = Vec::new();
     for reply in (1..variables).step_by(2) {
         let question = b.input(reply - 1);
@@ -58,20 +56,24 @@ fn replies(rng: &mut Rng, variables: usize, index: usize) -> Vec<u8> {
 
 /// A game with one right reply to every question, 16 levels.
 pub fn replies_16(rng: &mut Rng, index: usize) -> Vec<u8> {
-    replies(rng, 16, index)
+    replies(Builder::default(), rng, 16, index)
 }
 
 /// The same with 32 levels.
 pub fn replies_32(rng: &mut Rng, index: usize) -> Vec<u8> {
-    replies(rng, 32, index)
+    replies(Builder::default(), rng, 32, index)
 }
 
 /// 2QBF: for all of 14 variables there are 14 others, random 3-CNF near the threshold (one of the first, two of the others).
 pub fn forall_exists(rng: &mut Rng, index: usize) -> Vec<u8> {
-    let mut b = Builder::default();
-    let matrix = cnf(&mut b, rng, 22 + 3 * index, &[(0..14, 1), (14..28, 2)]);
-    let reply = b.exists(14..28, matrix);
-    let last = b.forall(0..14, reply);
+    two_blocks(Builder::default(), rng, 14, 22 + 3 * index)
+}
+
+/// For all of the first block there is the second, both of so many variables.
+pub fn two_blocks(mut b: Builder, rng: &mut Rng, block: usize, clauses: usize) -> Vec<u8> {
+    let matrix = cnf(&mut b, rng, clauses, &[(0..block, 1), (block..2 * block, 2)]);
+    let reply = b.exists(block..2 * block, matrix);
+    let last = b.forall(0..block, reply);
     b.finish(last)
 }
 
@@ -86,10 +88,15 @@ pub fn exists_forall(rng: &mut Rng, index: usize) -> Vec<u8> {
 
 /// Three blocks: exists 10 (open), forall 10, exists 10, random clauses of one of each.
 pub fn three_blocks(rng: &mut Rng, index: usize) -> Vec<u8> {
-    let mut b = Builder::default();
-    let matrix = cnf(&mut b, rng, 19 + 5 * index, &[(0..10, 1), (10..20, 1), (20..30, 1)]);
-    let reply = b.exists(20..30, matrix);
-    let last = b.forall(10..20, reply);
+    open_forall_exists(Builder::default(), rng, 10, 19 + 5 * index)
+}
+
+/// Exists (open), forall, exists, each of so many variables.
+pub fn open_forall_exists(mut b: Builder, rng: &mut Rng, block: usize, clauses: usize) -> Vec<u8> {
+    let [first, second, third] = [0, 1, 2].map(|place| place * block..(place + 1) * block);
+    let matrix = cnf(&mut b, rng, clauses, &[(first, 1), (second.clone(), 1), (third.clone(), 1)]);
+    let reply = b.exists(third, matrix);
+    let last = b.forall(second, reply);
     b.finish(last)
 }
 

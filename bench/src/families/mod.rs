@@ -3,12 +3,15 @@
 
 mod arithmetic;
 mod classic;
+mod gauged;
 mod interlock;
 mod levels;
 mod random;
 pub mod scale;
+mod wide;
 
 use crate::builder::{Builder, Frame};
+use crate::evaluator::form::Form;
 use crate::rng::Rng;
 use std::ops::Range;
 
@@ -16,8 +19,21 @@ pub const SHEETS: usize = 6;
 const SEED: u64 = 31;
 
 pub struct Family {
+    /// That of a wide one begins with `wide`, by which `ours` tells its sheets.
     pub name: &'static str,
-    sheet: fn(&mut Rng, usize) -> Vec<u8>,
+    pub form: Form,
+    sheet: Drawn,
+}
+
+/// The sheet of an index.
+type Drawn = fn(&mut Rng, usize) -> Vec<u8>;
+
+const fn narrow(name: &'static str, sheet: Drawn) -> Family {
+    Family { name, form: Form::Narrow, sheet }
+}
+
+const fn wide(name: &'static str, sheet: Drawn) -> Family {
+    Family { name, form: Form::Wide, sheet }
 }
 
 impl Family {
@@ -29,41 +45,55 @@ impl Family {
 }
 
 pub const FAMILIES: &[Family] = &[
-    Family { name: "gauges", sheet: interlock::gauges },
-    Family { name: "exclusions", sheet: interlock::exclusions },
-    Family { name: "levers", sheet: interlock::levers },
-    Family { name: "fallback", sheet: interlock::fallback },
-    Family { name: "fallback-twice", sheet: interlock::fallback_twice },
-    Family { name: "working", sheet: interlock::working },
-    Family { name: "shared-shallow", sheet: random::shallow },
-    Family { name: "shared-middle", sheet: random::middle },
-    Family { name: "shared-deep", sheet: random::deep },
-    Family { name: "circuit", sheet: random::circuit },
-    Family { name: "alternation-16", sheet: levels::alternation_16 },
-    Family { name: "alternation-32", sheet: levels::alternation_32 },
-    Family { name: "replies-16", sheet: levels::replies_16 },
-    Family { name: "replies-32", sheet: levels::replies_32 },
-    Family { name: "2qbf-forall-exists", sheet: levels::forall_exists },
-    Family { name: "2qbf-exists-forall", sheet: levels::exists_forall },
-    Family { name: "three-blocks", sheet: levels::three_blocks },
-    Family { name: "three-blocks-dual", sheet: levels::three_blocks_dual },
-    Family { name: "parity", sheet: arithmetic::parity },
-    Family { name: "parity-orders", sheet: arithmetic::parity_orders },
-    Family { name: "successor", sheet: arithmetic::successor },
-    Family { name: "comparator", sheet: arithmetic::comparator },
-    Family { name: "sum", sheet: arithmetic::sum },
-    Family { name: "difference", sheet: arithmetic::difference },
-    Family { name: "associative", sheet: arithmetic::associative },
-    Family { name: "quorum", sheet: arithmetic::quorum },
-    Family { name: "pigeonhole", sheet: classic::pigeonhole },
-    Family { name: "pigeonhole-forall", sheet: classic::pigeonhole_forall },
-    Family { name: "3-cnf", sheet: classic::three_cnf },
-    Family { name: "xor-system", sheet: classic::xor_system },
-    Family { name: "needle", sheet: classic::needle },
-    Family { name: "full-search", sheet: classic::full_search },
-    Family { name: "doubling", sheet: classic::doubling },
-    Family { name: "idle", sheet: classic::idle },
-    Family { name: "both-polarities", sheet: classic::both_polarities },
+    narrow("gauges", interlock::gauges),
+    narrow("exclusions", interlock::exclusions),
+    narrow("levers", interlock::levers),
+    narrow("fallback", interlock::fallback),
+    narrow("fallback-twice", interlock::fallback_twice),
+    narrow("working", interlock::working),
+    narrow("gauged-gate", gauged::gate),
+    narrow("gauged-fallback", gauged::fallback),
+    narrow("shared-shallow", random::shallow),
+    narrow("shared-middle", random::middle),
+    narrow("shared-deep", random::deep),
+    narrow("circuit", random::circuit),
+    narrow("alternation-16", levels::alternation_16),
+    narrow("alternation-32", levels::alternation_32),
+    narrow("replies-16", levels::replies_16),
+    narrow("replies-32", levels::replies_32),
+    narrow("2qbf-forall-exists", levels::forall_exists),
+    narrow("2qbf-exists-forall", levels::exists_forall),
+    narrow("three-blocks", levels::three_blocks),
+    narrow("three-blocks-dual", levels::three_blocks_dual),
+    narrow("parity", arithmetic::parity),
+    narrow("parity-orders", arithmetic::parity_orders),
+    narrow("successor", arithmetic::successor),
+    narrow("comparator", arithmetic::comparator),
+    narrow("sum", arithmetic::sum),
+    narrow("difference", arithmetic::difference),
+    narrow("associative", arithmetic::associative),
+    narrow("quorum", arithmetic::quorum),
+    narrow("pigeonhole", classic::pigeonhole),
+    narrow("pigeonhole-forall", classic::pigeonhole_forall),
+    narrow("3-cnf", classic::three_cnf),
+    narrow("xor-system", classic::xor_system),
+    narrow("needle", classic::needle),
+    narrow("full-search", classic::full_search),
+    narrow("doubling", classic::doubling),
+    narrow("idle", classic::idle),
+    narrow("both-polarities", classic::both_polarities),
+    wide("wide-exclusions", wide::exclusions),
+    wide("wide-levers", wide::levers),
+    wide("wide-staircase", wide::staircase),
+    wide("wide-fallback", wide::fallback),
+    wide("wide-alternation", wide::alternation),
+    wide("wide-replies", wide::replies),
+    wide("wide-2qbf", wide::two_blocks),
+    wide("wide-three-blocks", wide::three_blocks),
+    wide("wide-shared", wide::shared),
+    wide("wide-circuit", wide::circuit),
+    wide("wide-comparator", wide::comparator),
+    wide("wide-associative", wide::associative),
 ];
 
 /// So many different variables of the range.

@@ -1,11 +1,15 @@
-//! Sheets of growing size, for `bench/scale`: three families, by variables and by frames.
+//! Sheets of growing size, for `bench/scale`: by variables and by frames.
 
+use super::random::{circuits, Each};
 use super::{cnf, SEED};
 use crate::builder::Builder;
+use crate::evaluator::form::Form::{self, Narrow, Wide};
 use crate::rng::Rng;
 
 pub struct Sweep {
+    /// That of wide sheets begins with `wide`, as a family's.
     pub name: &'static str,
+    pub form: Form,
     /// What grows.
     pub axis: &'static str,
     pub sizes: &'static [usize],
@@ -23,36 +27,60 @@ const FRAMES: &[usize] = &[100, 120, 140, 160, 180, 200];
 pub const SWEEPS: &[Sweep] = &[
     Sweep {
         name: "two-blocks",
+        form: Narrow,
         axis: "variables",
         sizes: &[8, 12, 16, 20, 24, 28, 32],
-        sheet: |rng, size| two_blocks(rng, size, 5 * size + 12),
+        sheet: |rng, size| two_blocks(Builder::default(), rng, size, 5 * size + 12),
     },
-    Sweep { name: "two-blocks", axis: "frames", sizes: FRAMES, sheet: |rng, size| two_blocks(rng, 28, size) },
+    Sweep {
+        name: "two-blocks",
+        form: Narrow,
+        axis: "frames",
+        sizes: FRAMES,
+        sheet: |rng, size| two_blocks(Builder::default(), rng, 28, size),
+    },
     Sweep {
         name: "replies",
+        form: Narrow,
         axis: "variables",
         sizes: &[4, 8, 12, 16, 20, 24, 28, 32],
         sheet: |rng, size| replies(rng, size, 200),
     },
-    Sweep { name: "replies", axis: "frames", sizes: FRAMES, sheet: |rng, size| replies(rng, 28, size) },
+    Sweep { name: "replies", form: Narrow, axis: "frames", sizes: FRAMES, sheet: |rng, size| replies(rng, 28, size) },
     Sweep {
         name: "full-search",
+        form: Narrow,
         axis: "variables",
         sizes: &[6, 8, 10, 12, 14, 16, 18, 20, 22],
         sheet: |rng, size| full_search(rng, size, 9 * size),
     },
     Sweep {
         name: "full-search",
+        form: Narrow,
         axis: "frames",
         sizes: &[120, 140, 160, 180, 200],
         sheet: |rng, size| full_search(rng, 12, size),
+    },
+    Sweep {
+        name: "wide-two-blocks",
+        form: Wide,
+        axis: "variables",
+        sizes: &[16, 24, 32, 40, 48, 56, 64],
+        sheet: |rng, size| two_blocks(Builder::wide(), rng, size, 5 * size + 12),
+    },
+    Sweep {
+        name: "wide-circuits",
+        form: Wide,
+        axis: "frames",
+        sizes: &[500, 1000, 1500, 2000, 2500, 3000],
+        sheet: |rng, size| circuits(Builder::wide(), rng, 64, size / 154, Each { inputs: 24, frames: 150, window: 60 }),
     },
 ];
 
 /// For all of the first half of the variables there is the second half: random clauses of one and two, as many as there is
 /// room for; by variables about as many clauses as variables, which is near the threshold.
-fn two_blocks(rng: &mut Rng, variables: usize, frames: usize) -> Vec<u8> {
-    let (mut b, half) = (Builder::default(), variables / 2);
+fn two_blocks(mut b: Builder, rng: &mut Rng, variables: usize, frames: usize) -> Vec<u8> {
+    let half = variables / 2;
     let mut matrix = b.always();
     while b.size() + 8 <= frames {
         let clause = cnf(&mut b, rng, 1, &[(0..half, 1), (half..variables, 2)]);
