@@ -58,12 +58,17 @@ form-same net net′ e = rw e
 abbrev pub HasNode : List ℕ → ℕ → Type 0
 HasNode net k = 68 + 2 * k < length net
 
--- the first word has four bits of op, twelve of left, twelve of right; what stands above them are links. The second is the mask
+-- the first word has three bits of op and one that says whether the node is changed, twelve of left, twelve of right; what stands above them are links. The
+-- second is the mask
 unfoldable pub unpack : ℕ → ℕ → Node
-unpack x m = nodeOf (x % 16) (x / 16 % 4096) (x / 65536 % 4096) m
+unpack x m = nodeOf (x % 8) (x / 16 % 4096) (x / 65536 % 4096) m
 
 unfoldable pub packed : List ℕ → Net
 packed net k = unpack (getD net (firstWord k) 0) (getD net (secondWord k) 0)
+
+-- node k is changed: it need not stand for its frame
+unfoldable pub changed : List ℕ → ℕ → Bool
+changed net k = ltb 7 (getD net (firstWord k) 0 % 16)
 
 -- the formula of node k
 abbrev pub formulaAt : List ℕ → ℕ → Formula

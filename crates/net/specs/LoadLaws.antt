@@ -18,13 +18,14 @@ use Rattle.sheet.specs.declared.Kind.the-variants.{Never, Input, Not, And, Or, 
 use Rattle.form.specs.Form.{most-place, few-variables}
 use Rattle.form.specs.declared.Form.{Form}
 use Rattle.sheet.specs.Fields.{Sheet, frames, variables, kind}
-use Rattle.sheet.specs.Frames.{kind-past}
+use Rattle.sheet.specs.Frames.{formula, kind-past}
 use Rattle.sheet.specs.Frames as Sheets
 use Rattle.sheet.specs.Rules.{binds, gauges}
 use Rattle.sheet.specs.Accepted.{ordered-bounded}
-use Rattle.net.specs.Net.{Fixed, Binds, Net, fit-at, replace-here, replace-other, Ranged, Clear, Distinct}
+use Rattle.net.specs.Net.{Fixed, Binds, Net, meaning, fit-at, replace-here, replace-other, Ranged, Clear, Distinct}
 use Rattle.net.specs.Decode.{nodeOfKind, decoded, decoded-ordered, decoded-value, decoded-free}
 use Rattle.net.specs.Layout.{netWords, form-words, firstWord, secondWord, unpack, packed}
+use Rattle.net.specs.Stands.{Stands, stands-serves}
 use Rattle.net.specs.StoreLaws.{Stored, stored-long, stored-other, stored-net, none-behind}
 use Rattle.net.specs.Sheet.{Checked, NetOf, last}
 use Rattle.net.specs.Load.{boundOf, emptyNet, Empty, Loading}
@@ -111,6 +112,9 @@ module _ {s : Sheet} {free : ℕ} (C : Checked s free) where
   unfolding decoded
   decoded-ranged k = kind-ranged (variables s) k (kind s k) (C .ordered .fit k)
 
+  decoded-stands : (k : ℕ) → Stands (formula s k) (meaning (decoded (kind s)) k)
+  decoded-stands k = record { same = decoded-value (variables s) (kind s) (C .ordered) k; reads = decoded-free (variables s) (kind s) (C .ordered) k }
+
   decoded-distinct : Distinct (decoded (kind s))
   decoded-distinct =
       record {
@@ -189,7 +193,9 @@ loaded-net {s} {net} {net′} {n} {free} {gs} C q L e h =
       count = count;
       opens = opens ∙ C .opens;
       gauged = headed-gauged L free gs ∙ q;
-      each = λ k l. rw is (record { same = λ σ. decoded-value (variables s) (kind s) (C .ordered) k σ; reads = λ x. decoded-free (variables s) (kind s) (C .ordered) k x });
+      bounded = ordered-bounded (variables s) (kind s) (C .ordered) (last s);
+      each = λ k l q. rw is (decoded-stands C k);
+      ends = rw is (stands-serves (decoded-stands C (last s)));
       clear = rw (is, opens) (decoded-clear C);
       empty = λ i l. headed-other L free gs i (omega arith) ∙ L .behind i (omega (arith, count));
     })

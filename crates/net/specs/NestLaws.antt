@@ -1,21 +1,23 @@
 -- A quantifier over one of its kind stored as one over both masks: the net is still that of the sheet. Assumes nothing.
 use Prim.Native.Nat.{ℕ, _<_, _≤_}
 use native.Mathlib.Omega.{arith}
-use mathlib.Core.Path.{_≡_, _∙_, ap}
-use mathlib.Core.Bool.{Bool}
+use mathlib.Core.Path.{_≡_, sym, _∙_, ap}
+use mathlib.Core.Bool.{Bool, false}
 use mathlib.Core.List.{List}
 use lib.Bits.{bitOr}
 use lib.Dec.{eqb}
+use borrow.Author.Tests.{eqb-true}
+use Rattle.words.specs.Logic.{by-bool}
 use Rattle.words.specs.Mask.{or-apart}
 use Rattle.form.specs.Form as Sizes
 use Rattle.sheet.specs.Fields.{Sheet}
 use Rattle.net.specs.Net.{Node, Binds, Net, nodeOf, node-binds, replace, fit-at, Ordered, Clear, Distinct}
 use Rattle.net.specs.Clear.{clear-less, clear-or, clear-replace, distinct-replace, ranged-replace}
-use Rattle.net.specs.Stands.{stands-trans}
+use Rattle.net.specs.Stands.{stands-trans, stands-serves, serves-trans}
 use Rattle.net.specs.Nest.{nest-stands, nest-ordered}
-use Rattle.net.specs.Layout.{netForm, form-same, framesOf, unpack, packed, Ground, Is, is-binds}
-use Rattle.net.specs.StoreLaws.{Stored, stored-long, stored-other, stored-count, stored-opens, stored-gauged, stored-net}
-use Rattle.net.specs.Sheet.{NetOf}
+use Rattle.net.specs.Layout.{netForm, form-same, framesOf, unpack, packed, changed, Ground, Is, is-binds}
+use Rattle.net.specs.StoreLaws.{Stored, stored-long, stored-other, stored-count, stored-opens, stored-gauged, stored-changed, stored-net}
+use Rattle.net.specs.Sheet.{NetOf, last}
 
 -- ---- in the net
 
@@ -31,7 +33,7 @@ module _ {N : Net} {k q x m n : ℕ} {d : Bool} (o : Ordered N) (outer : N k ≡
 
 -- ---- in the words
 
-module _ {s : Sheet} {net net′ : List ℕ} {k op left right mask op′ left′ right′ mask′ w : ℕ} (N : NetOf s net) (l : k < framesOf net)
+module _ {s : Sheet} {net net′ : List ℕ} {k op left right mask op′ left′ right′ mask′ w : ℕ} (N : NetOf s net) (l : k < framesOf net) (kept : changed net k ≡ false)
     (I : Is net k op left right mask) (h : 6 ≤ op) (J : Is net left op′ left′ right′ mask′) (same : op′ ≡ op)
     (W : unpack w (bitOr mask mask′) ≡ nodeOf op left′ 0 (bitOr mask mask′)) (S : Stored net k w (bitOr mask mask′) net′) where
   abbrev both : Node
@@ -56,6 +58,9 @@ module _ {s : Sheet} {net net′ : List ℕ} {k op left right mask op′ left′
         few = omega (arith, N .ground .few, stored-long S);
       }
 
+  unchanged : (j : ℕ) → changed net′ j ≡ false → changed net j ≡ false
+  unchanged j q = by-bool (eqb j k) (λ e. rw (eqb-true j k e) kept) (λ e. sym (stored-changed S j e) ∙ q)
+
   pub nested-net : NetOf s net′
   nested-net =
       record {
@@ -63,7 +68,9 @@ module _ {s : Sheet} {net net′ : List ℕ} {k op left right mask op′ left′
         long = stored-long S ∙ N .long;
         count = stored-count S ∙ N .count;
         opens = stored-opens S ∙ N .opens;
-        each = λ j i. rw nested (stands-trans (N .each j i) (nest-stands (N .ground .ordered) outer inner j));
+        bounded = N .bounded;
+        each = λ j i q. rw nested (stands-trans (N .each j i (unchanged j q)) (nest-stands (N .ground .ordered) outer inner j));
+        ends = rw nested (serves-trans (N .ends) (stands-serves (nest-stands (N .ground .ordered) outer inner (last s))));
         gauged = stored-gauged S ∙ N .gauged;
         clear = rw (nested, stored-opens S) (nest-clear (N .ground .ordered) outer inner (N .clear));
         empty = λ i h. stored-other S i (λ e. omega (arith, stored-count S)) (λ e. omega (arith, stored-count S)) ∙ N .empty i (omega (arith, stored-count S));

@@ -9,7 +9,7 @@ use lib.ListN.{length, getD, set}
 use Rattle.words.specs.Mask.{Sub, Apart}
 use Rattle.sheet.specs.Fields.{Sheet}
 use Rattle.net.specs.Net.{Fixed, Binds, Clear}
-use Rattle.net.specs.Layout.{framesOf, freeOf, firstWord, secondWord, unpack, packed, formulaAt, val, Ground}
+use Rattle.net.specs.Layout.{framesOf, freeOf, firstWord, secondWord, unpack, packed, changed, formulaAt, val, Ground}
 use Rattle.net.specs.Sheet.{NetOf}
 
 -- the quantifier that d decides, over the node before it, at place i behind the frames
@@ -32,8 +32,9 @@ pub record Stacked (s : Sheet) (base net : List ℕ) (count used : ℕ) : Type 0
   pub ground : Ground net
   pub frames-same : framesOf net ≡ framesOf base
   pub long : length net ≡ length base
-  -- the frames stand for what they stood for
+  -- the frames stand for what they stood for, and are changed or not as they were
   pub same : (k : ℕ) → k < framesOf base → formulaAt net k ≡ formulaAt base k
+  pub changes : (k : ℕ) → k < framesOf base → changed net k ≡ changed base k
   -- free variables that are not used are bound nowhere
   pub clear : {m : ℕ} → Sub m (freeOf base) → Apart used m → (a : ℕ) → Clear (packed net) a m
   -- nothing stands behind the quantifiers, and everything else is as in `base`

@@ -18,7 +18,7 @@ use Rattle.sheet.specs.Fields.{Sheet}
 use Rattle.net.specs.Net.{Node, Fixed, Binds, nodeOf, node-fixed, node-reads, node-flips, node-joins, node-binds, replace, replace-here, replace-other, fit-at, at-binds, meaning-agree, ordered-replace, Clear, Distinct}
 use Rattle.net.specs.Clear.{clear-sub, clear-replace, distinct-replace, ranged-replace}
 use Rattle.net.specs.Layout.{netForm, form-same, framesOf, freeOf, firstWord, secondWord, HasNode, unpack, packed, formulaAt, Ground, Is, val, decides}
-use Rattle.net.specs.StoreLaws.{Stored, stored-long, stored-other, stored-count, stored-first, stored-second, stored-net, none-behind}
+use Rattle.net.specs.StoreLaws.{Stored, stored-long, stored-other, stored-count, stored-first, stored-second, stored-changed, stored-net, none-behind}
 use Rattle.net.specs.Sheet.{NetOf}
 use Rattle.net.specs.Own.{Chosen, Forgotten, Stacked}
 
@@ -96,6 +96,7 @@ stacked-none {s} {net} N h = record {
   frames-same = refl;
   long = refl;
   same = λ k l. refl;
+  changes = λ k l. refl;
   clear = λ i a k. clear-sub (net-clear N k) i;
   behind = λ k l. net-behind N k (omega arith);
   others = λ i h. refl;
@@ -163,6 +164,7 @@ module _ {s : Sheet} {base net : List ℕ} {i used d mask : ℕ} {net′ : List 
     frames-same = chosen-count ∙ S .frames-same;
     long = stored-long stored ∙ S .long;
     same = λ k h. chosen-same k (omega (arith, S .frames-same)) ∙ S .same k h;
+    changes = λ k h. stored-changed stored k (ne-eqb k place (λ e. omega (arith, S .frames-same))) ∙ S .changes k h;
     clear = λ {m} t a k. rw chosen-net
         (clear-replace (val d) (place - 1) (S .clear t (apart-sym (apart-sub (apart-sym a) (sub-or-left used mask))) k) (λ h. apart-sym (apart-sub (apart-sym a) (sub-or-right used mask))));
     behind = λ k h. rw chosen-net (replace-other (packed net) place own k (ne-eqb k place (λ e. omega (arith, S .frames-same))) ∙ S .behind k (omega arith));

@@ -6,11 +6,11 @@ use mathlib.Core.Bool.{false}
 use mathlib.Core.List.{List}
 use lib.ListN.{length, getD, set, length-set}
 use lib.Seq.{getD-set-same, getD-set-other}
-use lib.Dec.{eqb}
+use lib.Dec.{eqb, ltb}
 use borrow.Author.Tests.{eqb-true}
 use Rattle.words.specs.Logic.{by-bool, tests}
 use Rattle.net.specs.Net.{Fixed, nodeOf, replace, replace-here, replace-other}
-use Rattle.net.specs.Layout.{framesOf, freeOf, gaugesOf, firstWord, secondWord, HasNode, unpack, packed, Is}
+use Rattle.net.specs.Layout.{framesOf, freeOf, gaugesOf, firstWord, secondWord, HasNode, unpack, packed, changed, Is}
 
 -- ---- one word
 
@@ -18,10 +18,10 @@ mod-low : (x y l : ℕ) → l < 4096 → x ≡ y * 4096 + l → x % 4096 ≡ l
 mod-low x y l h e = omega arith
 
 -- a word as the code makes it
-pub word-node : {op left right w : ℕ} → op < 16 → left < 4096 → right < 4096 → w ≡ op + 16 * left + 65536 * right → (mask : ℕ) → unpack w mask ≡ nodeOf op left right mask
+pub word-node : {op left right w : ℕ} → op < 8 → left < 4096 → right < 4096 → w ≡ op + 16 * left + 65536 * right → (mask : ℕ) → unpack w mask ≡ nodeOf op left right mask
 unfolding unpack
 word-node {op} {left} {right} {w} p l r e mask =
-    let a : w % 16 ≡ op = omega arith in
+    let a : w % 8 ≡ op = omega arith in
     let s : w / 16 ≡ right * 4096 + left = omega arith in
     let b : w / 16 % 4096 ≡ left = mod-low (w / 16) right left l s in
     let t : w / 65536 ≡ right = omega arith in
@@ -30,7 +30,7 @@ word-node {op} {left} {right} {w} p l r e mask =
 
 -- and as it is read
 pub is-read : {net : List ℕ} {k mask : ℕ} → mask ≡ getD net (secondWord k) 0
-    → Is net k (getD net (firstWord k) 0 % 16) (getD net (firstWord k) 0 / 16 % 4096) (getD net (firstWord k) 0 / 65536 % 4096) mask
+    → Is net k (getD net (firstWord k) 0 % 8) (getD net (firstWord k) 0 / 16 % 4096) (getD net (firstWord k) 0 / 65536 % 4096) mask
 unfolding packed unpack
 is-read e = record { node = rw e }
 
@@ -84,6 +84,11 @@ module _ {net net′ : List ℕ} {k w m : ℕ} (S : Stored net k w m net′) whe
   stored-second h =
       ap (λ (l : List ℕ). getD l (secondWord k) 0) (S .is)
       ∙ getD-set-same (set net (firstWord k) w) (secondWord k) m 0 (omega (arith, length-set net (firstWord k) w))
+
+  -- whether another node is changed is as it was
+  pub stored-changed : (j : ℕ) → eqb j k ≡ false → changed net′ j ≡ changed net j
+  unfolding changed
+  stored-changed j e = ap (λ (x : ℕ). ltb 7 (x % 16)) (stored-other (firstWord j) (λ q. omega tests) (λ q. omega tests))
 
   pub stored-net : HasNode net k → packed net′ ≡ replace (packed net) k (unpack w m)
   unfolding packed

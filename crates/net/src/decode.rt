@@ -11,7 +11,6 @@ ghost use Rattle.net.specs.Decode.{nodeOfKind};
 ghost use Rattle.net.specs.Layout.{unpack};
 ghost use Rattle.net.specs.Sheet.{Checked, NetOf};
 ghost use Rattle.net.specs.Load.{boundOf, Empty, Loading};
-use crate::links::link;
 use crate::node::put;
 use crate::node::word;
 use crate::rewrite::nest;
@@ -103,7 +102,7 @@ fn head(net: &mut [u64], frames: usize, free: u64, gauges: u64)
     net[2] = gauges;
 }
 
-// The whole sheet, rewritten and linked. The net has room for every sheet of the form and three nodes more, and is empty.
+// The whole sheet, with neighbouring quantifiers joined. Links come later, behind whatever else is rewritten. The net has room for every sheet of the form and three nodes more, and is empty.
 pub fn load(sheet: &[u8], wide: bool, free: u64, gauges: u64, net: &mut [u64])
     requires { ⌜ Checked (sheetOf (formOf wide) (now sheet)) free × (gauges ≡ Rules.gauges (sheetOf (formOf wide) (now sheet))) × Empty (formOf wide) (now net) ⌝ }
     ensures { λ _. ⌜ NetOf (sheetOf (formOf wide) (now (sheet .entry))) (now (net .exit)) ⌝ }
@@ -113,5 +112,4 @@ pub fn load(sheet: &[u8], wide: bool, free: u64, gauges: u64, net: &mut [u64])
     let form = form::of(wide);
     head(net, form::frames(form, sheet.len()), free, gauges);
     nest(net);
-    link(net);
 }

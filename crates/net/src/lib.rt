@@ -6,7 +6,9 @@ mod own;
 mod rewrite;
 
 pub use decode::load;
+pub use links::link;
 pub use node::Node;
+pub use node::changed;
 pub use node::form;
 pub use node::frames;
 pub use node::free;

@@ -3,13 +3,13 @@
 //   1          the free variables of the last frame
 //   2          the gauges
 //   3 to 66    for each variable the last node that reads it (links.rt)
-//   67 + 2k    node k: four bits of op, twelve of left, twelve of right, and three links of twelve bits (links.rt)
+//   67 + 2k    node k: three bits of op, whether it is changed, twelve of left, twelve of right, and three links of twelve bits (links.rt)
 //   68 + 2k    its mask
 ghost use mathlib.Core.Path.{_≡_};
 ghost use Prim.Native.Nat.{ℕ, _+_, _*_, _<_};
 ghost use lib.ListN.{length, set};
 ghost use Rattle.net.specs.Net.{nodeOf};
-ghost use Rattle.net.specs.Layout.{netForm, framesOf, freeOf, gaugesOf, firstWord, secondWord, HasNode, unpack, Is, decides};
+ghost use Rattle.net.specs.Layout.{netForm, framesOf, freeOf, gaugesOf, firstWord, secondWord, HasNode, unpack, changed, Is, decides};
 use form::Form;
 
 // Where the nodes begin.
@@ -57,16 +57,24 @@ pub fn gauges(net: &[u64]) -> u64
 pub fn node_at(net: &[u64], k: usize) -> Node
     requires { ⌜ HasNode (now net) k ⌝ }
     ensures { λ r. ⌜ Is (now (net .entry)) k (r .op) (r .left) (r .right) (r .mask) ⌝ }
-    ensures { λ r. ⌜ (r .op < 16) × (r .left < 4096) × (r .right < 4096) ⌝ }
+    ensures { λ r. ⌜ (r .op < 8) × (r .left < 4096) × (r .right < 4096) ⌝ }
 {
     let at = NODES + 2 * k;
     let word = net[at];
     Node {
-        op: (word % 16) as u8,
+        op: (word % 8) as u8,
         left: (word / 16 % 4096) as usize,
         right: (word / 65536 % 4096) as usize,
         mask: net[at + 1],
     }
+}
+
+// Whether node k is changed: it need not stand for its frame, and no record is one of it.
+pub fn changed(net: &[u64], k: usize) -> bool
+    requires { ⌜ HasNode (now net) k ⌝ }
+    ensures { λ r. ⌜ r ≡ changed (now (net .entry)) k ⌝ }
+{
+    net[NODES + 2 * k] % 16 > 7
 }
 
 // The truth that decides a quantifier: 2 an EXISTS, 1 a FORALL.
@@ -79,9 +87,9 @@ pub fn decided(op: u8) -> u8
     1
 }
 
-// The first word of a node, without links.
+// The first word of a node that is not changed, without links.
 pub fn word(op: u8, left: usize, right: usize) -> u64
-    requires { ⌜ (op < 16) × (left < 4096) × (right < 4096) ⌝ }
+    requires { ⌜ (op < 8) × (left < 4096) × (right < 4096) ⌝ }
     ensures { λ r. ⌜ ((mask : ℕ) → unpack r mask ≡ nodeOf op left right mask) ⌝ }
 {
     op as u64 + 16 * (left as u64) + 65536 * (right as u64)

@@ -3,18 +3,22 @@ ghost use Prim.Native.Nat.{_<_};
 ghost use Rattle.net.specs.Layout.{framesOf};
 ghost use Rattle.sheet.specs.Fields.{Sheet};
 ghost use Rattle.net.specs.Sheet.{NetOf};
+use crate::node::changed;
 use crate::node::frames;
 use crate::node::node_at;
 use crate::node::put;
 use crate::node::word;
 
-// Node k, if it is such a quantifier.
+// Node k, if it is such a quantifier and not changed.
 fn nest_at(net: &mut [u64], k: usize)
     requires { ⌜ ((s : Sheet) × NetOf s (now net)) × (k < framesOf (now net)) ⌝ }
     ensures { λ _. ⌜ ((s : Sheet) → NetOf s (now (net .entry)) → NetOf s (now (net .exit))) ⌝ }
 {
     let outer = node_at(&net[..], k);
     if outer.op < 6 {
+        return;
+    }
+    if changed(&net[..], k) {
         return;
     }
     let inner = node_at(&net[..], outer.left);

@@ -8,7 +8,7 @@ use Rattle.words.specs.Mask.{without}
 use Rattle.form.specs.Form.{wordEnd}
 use Rattle.form.specs.declared.Form.{Form}
 use Rattle.records.specs.Table.{matches, maskAt, Kept}
-use Rattle.net.specs.Layout.{decides}
+use Rattle.net.specs.Layout.{netForm, changed, decides}
 
 -- every variable of a record, as a mask
 abbrev pub all : Form → ℕ
@@ -28,6 +28,11 @@ pub record RecordAt (F : Form) (t : List ℕ) (count frame w r : ℕ) : Type 0 w
 -- a value that a record gives: true from the under table, false from the over table
 abbrev pub Recorded : Form → ℕ → ℕ → List ℕ → ℕ → List ℕ → ℕ → ℕ → ℕ → Type 0
 Recorded F frame w u cu o co v r = 0 < v → ((v ≡ 2) × RecordAt F u cu frame w r) ⊎ ((v ≡ 1) × RecordAt F o co frame w r)
+
+-- the same of node i of the net: no record speaks of one that is changed
+pub record RecordedNode (net : List ℕ) (i w : ℕ) (u : List ℕ) (cu : ℕ) (o : List ℕ) (co v r : ℕ) : Type 0 where
+  pub unchanged : 0 < v → changed net i ≡ false
+  pub recorded : Recorded (netForm net) i w u cu o co v r
 
 -- a quantifier's value v and reason r, from what the search of its body found
 pub record Shown (op mask : ℕ) (found : Bool) (reason v r : ℕ) : Type 0 where

@@ -8,7 +8,7 @@ use Rattle.words.specs.Word.{bit}
 use Rattle.formula.specs.Assignment.{Assignment, On}
 use Rattle.formula.specs.Formula.{Formula, truth, free}
 use Rattle.net.specs.Net.{Node, Fixed, Reads, Flips, Joins, Binds, meaning}
-use Rattle.net.specs.Layout.{netForm, packed}
+use Rattle.net.specs.Layout.{netForm, packed, changed}
 use Rattle.form.specs.declared.Form.{Form}
 use Rattle.records.specs.Table.{frameAt, maskAt, valuesAt}
 use Rattle.proxies.specs.Kept.{Noted}
@@ -37,15 +37,16 @@ pub record Agreeing (F : Form) (t : List ℕ) (count b : ℕ) (σ : Assignment) 
   pub frame : frameAt F t at ≡ b
   pub agrees : On (bit (maskAt F t at)) σ (bit (valuesAt F t at))
 
--- b.p ⇒ b.O and ¬b.p ⇒ ¬b.U, of every b. (The proxies of quantifiers that are no children do not occur in F.)
-pub record Allowed (F : Form) (u : List ℕ) (cu : ℕ) (o : List ℕ) (co : ℕ) (σ : Assignment) : Type 0 where
-  pub true-proxy : (b : ℕ) → σ (proxy b) ≡ true → Agreeing F o co b σ → ⊥
-  pub false-proxy : (b : ℕ) → σ (proxy b) ≡ false → Agreeing F u cu b σ → ⊥
+-- b.p ⇒ b.O and ¬b.p ⇒ ¬b.U, of every b that is not changed: of a changed one no record is used. (The proxies of quantifiers that are no children do not
+-- occur in F.)
+pub record Allowed (net u : List ℕ) (cu : ℕ) (o : List ℕ) (co : ℕ) (σ : Assignment) : Type 0 where
+  pub true-proxy : (b : ℕ) → changed net b ≡ false → σ (proxy b) ≡ true → Agreeing (netForm net) o co b σ → ⊥
+  pub false-proxy : (b : ℕ) → changed net b ≡ false → σ (proxy b) ≡ false → Agreeing (netForm net) u cu b σ → ⊥
 
 -- L: σ, which has values for the variables and the proxies, gives F the truth that is looked for, and is allowed
 pub record L (net u : List ℕ) (cu : ℕ) (o : List ℕ) (co a : ℕ) (target : Bool) (σ : Assignment) : Type 0 where
   pub holds : truth (body net a) σ ≡ target
-  pub allowed : Allowed (netForm net) u cu o co σ
+  pub allowed : Allowed net u cu o co σ
 
 -- L': the same with b.p ⇒ b.U and ¬b.p ⇒ ¬b.O, of every child b
 pub record L′ (net u : List ℕ) (cu : ℕ) (o : List ℕ) (co a : ℕ) (target : Bool) (σ : Assignment) : Type 0 where
@@ -53,8 +54,8 @@ pub record L′ (net u : List ℕ) (cu : ℕ) (o : List ℕ) (co a : ℕ) (targe
   pub true-proxy : (b : ℕ) → free (body net a) (proxy b) ≡ true → σ (proxy b) ≡ true → Agreeing (netForm net) u cu b σ
   pub false-proxy : (b : ℕ) → free (body net a) (proxy b) ≡ true → σ (proxy b) ≡ false → Agreeing (netForm net) o co b σ
 
--- a child whose value is known: what `quantified` ensures of the child b, a frame, when it is checked under the candidate w, of which the variables of m
--- are set
+-- a child whose value is known: what `quantified` ensures of the child b, a frame that is not changed, when it is checked under the candidate w, of which the
+-- variables of m are set
 pub record Settled (net : List ℕ) (m w : ℕ) (u : List ℕ) (cu : ℕ) (o : List ℕ) (co b : ℕ) : Type 0 where
   pub value : ℕ
   pub reason : ℕ

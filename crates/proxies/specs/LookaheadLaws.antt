@@ -19,10 +19,13 @@ use Rattle.formula.specs.Reason.{explains-truth}
 use Rattle.form.specs.Form.{room, variables, few-variables}
 use Rattle.form.specs.declared.Form.{Form}
 use Rattle.records.specs.Table.{Valid, maskAt, valuesAt, matches, matches-all, Kept, kept-grown}
-use Rattle.records.specs.Both.{Tables, TablesGrown}
+use Rattle.records.specs.Both.{Tables}
 use Rattle.net.specs.Net.{Node, Fixed, Reads, Flips, Joins, Binds, Fit, Ordered, Ranged, fit-at, at-fixed, at-reads, at-flips, at-joins, upward}
-use Rattle.net.specs.Layout.{netForm, framesOf, packed, formulaAt, Ground, val, ground-ranged, ground-bounded}
-use Rattle.proxies.specs.Kept.{all, lowWord, RecordAt, Recorded}
+use Rattle.net.specs.Stands.{stands-sym, explains-stands}
+use Rattle.net.specs.Sheet.{Faithful}
+use Rattle.net.specs.Layout.{netForm, framesOf, packed, changed, formulaAt, Ground, val, ground-ranged, ground-bounded}
+use Rattle.proxies.specs.Kept.{all, lowWord, RecordAt, RecordedNode}
+use Rattle.proxies.specs.Growing.{Growing}
 use Rattle.imply.specs.Posed.{Covers}
 use Rattle.proxies.specs.KeptLaws.{bit-all, low-bit, recorded-told}
 use Rattle.proxies.specs.Lookahead.{proxy, proxied, body, Agreeing, Allowed, L, L′, Settled}
@@ -45,20 +48,20 @@ matching {F} {t} {count} {b} {j} w σ h l e =
 
 -- Law 1. What a record says of the child b under the candidate w is the only value that L leaves to b's proxy: true where b.U holds (by ¬b.p ⇒ ¬b.U),
 -- false where b.O does not (by b.p ⇒ b.O).
-pub recorded-leaves : {F : Form} {b w : ℕ} {u : List ℕ} {cu : ℕ} {o : List ℕ} {co v r : ℕ} → Recorded F b w u cu o co v r → 0 < v
-    → (σ : Assignment) → ((k : ℕ) → k < variables F → σ k ≡ bit w k) → Allowed F u cu o co σ → σ (proxy b) ≡ val v
+pub recorded-leaves : {net : List ℕ} {b w : ℕ} {u : List ℕ} {cu : ℕ} {o : List ℕ} {co v r : ℕ} → RecordedNode net b w u cu o co v r → 0 < v
+    → (σ : Assignment) → ((k : ℕ) → k < variables (netForm net) → σ k ≡ bit w k) → Allowed net u cu o co σ → σ (proxy b) ≡ val v
 unfolding val
-recorded-leaves {F} {b} {w} {u} {cu} {o} {co} {v} {r} R s σ h a = by (R s)
+recorded-leaves {net} {b} {w} {u} {cu} {o} {co} {v} {r} R s σ h a = by (R .recorded s)
   where
-    by : ((v ≡ 2) × RecordAt F u cu b w r) ⊎ ((v ≡ 1) × RecordAt F o co b w r) → σ (proxy b) ≡ val v
-    by (inl (e, c)) = rw e (by-bool (σ (proxy b)) (λ z. z) (λ z. absurd (a .false-proxy b z (matching w σ h (c .counted) (c .hit)))))
-    by (inr (e, c)) = rw e (by-bool (σ (proxy b)) (λ z. absurd (a .true-proxy b z (matching w σ h (c .counted) (c .hit)))) (λ z. z))
+    by : ((v ≡ 2) × RecordAt (netForm net) u cu b w r) ⊎ ((v ≡ 1) × RecordAt (netForm net) o co b w r) → σ (proxy b) ≡ val v
+    by (inl (e, c)) = rw e (by-bool (σ (proxy b)) (λ z. z) (λ z. absurd (a .false-proxy b (R .unchanged s) z (matching w σ h (c .counted) (c .hit)))))
+    by (inr (e, c)) = rw e (by-bool (σ (proxy b)) (λ z. absurd (a .true-proxy b (R .unchanged s) z (matching w σ h (c .counted) (c .hit)))) (λ z. z))
 
 -- ---- a child whose value is known
 
 -- it stays so while the tables grow
 pub settled-grown : {net u u' : List ℕ} {cu cu' : ℕ} {o o' : List ℕ} {co co' m w b : ℕ}
-    → TablesGrown (netForm net) (formulaAt net) (framesOf net) u cu o co u' cu' o' co' → Settled net m w u cu o co b → Settled net m w u' cu' o' co' b
+    → Growing net u cu o co u' cu' o' co' → Settled net m w u cu o co b → Settled net m w u' cu' o' co' b
 settled-grown {net} {w = w} {b = b} g q = record {
   value = q .value;
   reason = q .reason;
@@ -70,9 +73,9 @@ settled-grown {net} {w = w} {b = b} g q = record {
 }
 
 -- a child that `recorded` found a record of
-pub recorded-settled : {net u : List ℕ} {cu : ℕ} {o : List ℕ} {co m w b v r : ℕ} → Ground net → Tables (netForm net) (formulaAt net) (framesOf net) u cu o co → Covers net b m
-    → 0 < v → Recorded (netForm net) b w u cu o co v r → Settled net m w u cu o co b
-recorded-settled {v = v} {r = r} G T c s R = let q = recorded-told G T c s R in record { value = v; reason = r; told = q .0; noted = q .1 }
+pub recorded-settled : {net : List ℕ} {φ : ℕ → Formula} {u : List ℕ} {cu : ℕ} {o : List ℕ} {co m w b v r : ℕ} → Ground net → Faithful φ net → Tables (netForm net) φ (framesOf net) u cu o co
+    → Covers net b m → 0 < v → RecordedNode net b w u cu o co v r → Settled net m w u cu o co b
+recorded-settled {v = v} {r = r} G A T c s R = let q = recorded-told G A T c s R in record { value = v; reason = r; told = q .0; noted = q .1 }
 
 -- ---- the candidate w with each proxy at its node's truth
 
@@ -125,19 +128,21 @@ module _ {net : List ℕ} (G : Ground net) (w : ℕ) where
   -- ---- true tables
 
   -- a record of a true table that agrees with the completed candidate has the node's truth: its variables are free in the node, and so below 64
-  agreeing-truth : {t : List ℕ} {count b : ℕ} {v : Bool} → Valid (netForm net) (formulaAt net) (framesOf net) v t count → Agreeing (netForm net) t count b (completed net w) → completed net w (proxy b) ≡ v
-  agreeing-truth {b = b} T c =
-      let e = T .each (c .at) (c .counted) .explains in
+  agreeing-truth : {φ : ℕ → Formula} {t : List ℕ} {count b : ℕ} {v : Bool} → Faithful φ net → Valid (netForm net) φ (framesOf net) v t count → changed net b ≡ false
+      → Agreeing (netForm net) t count b (completed net w) → completed net w (proxy b) ≡ v
+  agreeing-truth {b = b} A T q c =
+      let h = T .each (c .at) (c .counted) in
+      let below : b < framesOf net = rw (c .frame) at (h .below) in
+      let e = explains-stands (stands-sym (A .each b below q)) (rw (c .frame) at (h .explains)) in
       completed-proxy net w b
-      ∙ ap (λ (k : ℕ). truth (formulaAt net k) (bit w)) (sym (c .frame))
-      ∙ e .forces (bit w) (λ k i. sym (completed-low net w k (ground-bounded G _ .below k (e .inside k i))) ∙ c .agrees k i)
+      ∙ e .forces (bit w) (λ k i. sym (completed-low net w k (ground-bounded G b .below k (e .inside k i))) ∙ c .agrees k i)
 
-  module _ {u : List ℕ} {cu : ℕ} {o : List ℕ} {co : ℕ} (T : Tables (netForm net) (formulaAt net) (framesOf net) u cu o co) where
+  module _ {φ : ℕ → Formula} {u : List ℕ} {cu : ℕ} {o : List ℕ} {co : ℕ} (A : Faithful φ net) (T : Tables (netForm net) φ (framesOf net) u cu o co) where
     -- b.U implies b and b implies b.O, so that the completed candidate has b.p ⇒ b.O and ¬b.p ⇒ ¬b.U
-    pub true-allowed : Allowed (netForm net) u cu o co (completed net w)
+    pub true-allowed : Allowed net u cu o co (completed net w)
     true-allowed = record {
-      true-proxy = λ b p c. clash (completed net w (proxy b)) p (agreeing-truth (T .over) c);
-      false-proxy = λ b p c. clash (completed net w (proxy b)) (agreeing-truth (T .under) c) p;
+      true-proxy = λ b q p c. clash (completed net w (proxy b)) p (agreeing-truth A (T .over) q c);
+      false-proxy = λ b q p c. clash (completed net w (proxy b)) (agreeing-truth A (T .under) q c) p;
     }
 
     -- Law 2. L excludes no candidate that gives the body the target's truth.
@@ -165,7 +170,7 @@ module _ {net : List ℕ} (G : Ground net) (w : ℕ) where
     settled-false h p = kept-agreeing h (q .noted .over (omega (tests, q .told .some, q .told .forced .low, sym proxy-is ∙ p)))
 
   -- Law 3. The candidate w gives the body the target's truth, and each child's value is known. Then L' holds of the candidate, as long as the tables
-  -- have room. (A child that the body's value does not need is not checked, and may have no record; one behind the frames has none.)
+  -- have room. (A child that the body's value does not need is not checked, and may have no record; a changed one, and one behind the frames, has none.)
   pub found : {m : ℕ} {u : List ℕ} {cu : ℕ} {o : List ℕ} {co a : ℕ} {t : Bool} → cu < room (netForm net) (length u) → co < room (netForm net) (length o) → truth (formulaAt net a) (bit w) ≡ t
       → ((b : ℕ) → free (body net a) (proxy b) ≡ true → Settled net m w u cu o co b) → L′ net u cu o co a t (completed net w)
   found {a = a} h l e f = record {

@@ -8,16 +8,17 @@ use records::Counts;
 use records::Found;
 use words::w64;
 ghost use mathlib.Core.Path.{_≡_};
+ghost use mathlib.Core.Bool.{false};
 ghost use mathlib.Core.List.{List};
 ghost use Prim.Native.Nat.{ℕ, _%_, _<_, _≤_};
 ghost use lib.ListN.{length};
 ghost use Rattle.words.specs.Word.{bit};
 ghost use Rattle.formula.specs.Reason.{Explains};
 ghost use Rattle.form.specs.Form.{recordStart, wordEnd};
-ghost use Rattle.records.specs.Both.{Tables, TablesGrown};
-ghost use Rattle.net.specs.Layout.{Ground, netForm, framesOf, formulaAt, val};
+ghost use Rattle.net.specs.Layout.{Ground, netForm, framesOf, changed, formulaAt, val};
+ghost use Rattle.proxies.specs.Growing.{Growing};
 ghost use Rattle.proxies.specs.Kept as Kept;
-ghost use Rattle.proxies.specs.Kept.{Recorded, Noted, Shown};
+ghost use Rattle.proxies.specs.Kept.{Recorded, RecordedNode, Noted, Shown};
 
 // Every variable of a record.
 fn all(form: Form) -> u64
@@ -73,7 +74,7 @@ fn recorded_frame(
     }
 }
 
-// The same of node i. Records are of frames: of a quantifier behind them, a question's, there is none.
+// The same of node i. Records are of frames: of a quantifier behind them, a question's, there is none, and none is used of a node that is changed.
 pub fn recorded(
     net: &[u64],
     i: usize,
@@ -83,10 +84,12 @@ pub fn recorded(
     kept: Counts,
 ) -> Known
     requires { ⌜ Ground (now net) × (recordStart (netForm (now net)) (kept .under) ≤ length (now under)) × (recordStart (netForm (now net)) (kept .over) ≤ length (now over)) ⌝ }
-    ensures { λ r. ⌜ Recorded (netForm (now (net .entry))) i word (now (under .entry)) (kept .under) (now (over .entry)) (kept .over) (r .value) (r .reason) ⌝ }
+    ensures { λ r. ⌜ RecordedNode (now (net .entry)) i word (now (under .entry)) (kept .under) (now (over .entry)) (kept .over) (r .value) (r .reason) ⌝ }
 {
     if i < net::frames(net) {
-        return recorded_frame(net::form(net), i, word, under, over, kept);
+        if !net::changed(net, i) {
+            return recorded_frame(net::form(net), i, word, under, over, kept);
+        }
     }
     Known {
         value: 0,
@@ -122,7 +125,7 @@ fn note_frame(
     kept: Counts,
 ) -> Counts
     requires { ⌜ (frame < 4096) × (recordStart form (kept .under) ≤ length (now under)) × (recordStart form (kept .over) ≤ length (now over)) × (0 < known .value) × (known .value < 3) ⌝ }
-    ensures { λ r. ⌜ ((net : List ℕ) → Ground net → form ≡ netForm net → Tables (netForm net) (formulaAt net) (framesOf net) (now (under .entry)) (kept .under) (now (over .entry)) (kept .over) → frame < framesOf net → Explains (formulaAt net frame) (val (known .value)) (bit (known .reason)) (bit word) → TablesGrown (netForm net) (formulaAt net) (framesOf net) (now (under .entry)) (kept .under) (now (over .entry)) (kept .over) (now (under .exit)) (r .under) (now (over .exit)) (r .over) × Noted (netForm net) frame (known .value) word (now (under .exit)) (r .under) (now (over .exit)) (r .over)) ⌝ }
+    ensures { λ r. ⌜ ((net : List ℕ) → Ground net → form ≡ netForm net → frame < framesOf net → changed net frame ≡ false → Explains (formulaAt net frame) (val (known .value)) (bit (known .reason)) (bit word) → Growing net (now (under .entry)) (kept .under) (now (over .entry)) (kept .over) (now (under .exit)) (r .under) (now (over .exit)) (r .over) × Noted (netForm net) frame (known .value) word (now (under .exit)) (r .under) (now (over .exit)) (r .over)) ⌝ }
 {
     let mask = low(form, known.reason);
     let values = low(form, word & known.reason);
@@ -140,7 +143,7 @@ fn note_frame(
     }
 }
 
-// The same of node i. Of a quantifier behind the frames nothing is kept.
+// The same of node i. Of a quantifier behind the frames, and of a changed node, nothing is kept.
 pub fn note(
     net: &[u64],
     i: usize,
@@ -151,9 +154,12 @@ pub fn note(
     kept: Counts,
 ) -> Counts
     requires { ⌜ Ground (now net) × (recordStart (netForm (now net)) (kept .under) ≤ length (now under)) × (recordStart (netForm (now net)) (kept .over) ≤ length (now over)) × (0 < known .value) × (known .value < 3) ⌝ }
-    ensures { λ r. ⌜ (Tables (netForm (now (net .entry))) (formulaAt (now (net .entry))) (framesOf (now (net .entry))) (now (under .entry)) (kept .under) (now (over .entry)) (kept .over) → Explains (formulaAt (now (net .entry)) i) (val (known .value)) (bit (known .reason)) (bit word) → TablesGrown (netForm (now (net .entry))) (formulaAt (now (net .entry))) (framesOf (now (net .entry))) (now (under .entry)) (kept .under) (now (over .entry)) (kept .over) (now (under .exit)) (r .under) (now (over .exit)) (r .over) × (i < framesOf (now (net .entry)) → Noted (netForm (now (net .entry))) i (known .value) word (now (under .exit)) (r .under) (now (over .exit)) (r .over))) ⌝ }
+    ensures { λ r. ⌜ (Explains (formulaAt (now (net .entry)) i) (val (known .value)) (bit (known .reason)) (bit word) → Growing (now (net .entry)) (now (under .entry)) (kept .under) (now (over .entry)) (kept .over) (now (under .exit)) (r .under) (now (over .exit)) (r .over) × (i < framesOf (now (net .entry)) → changed (now (net .entry)) i ≡ false → Noted (netForm (now (net .entry))) i (known .value) word (now (under .exit)) (r .under) (now (over .exit)) (r .over))) ⌝ }
 {
     if i >= net::frames(net) {
+        return kept;
+    }
+    if net::changed(net, i) {
         return kept;
     }
     note_frame(net::form(net), i, known, word, under, over, kept)

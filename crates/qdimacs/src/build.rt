@@ -40,7 +40,7 @@ fn contingent(codes: &[u8], frames: &[u8]) -> bool
     let mut under = [0u32; 3];
     let mut over = [0u32; 3];
     let mut net = [0u64; 473];
-    net::load(frames, false, found.all as u64, 0, &mut net);
+    phase::load(frames, false, found.all as u64, 0, &mut net);
     let none = records::Counts { under: 0, over: 0 };
     let answer = solver::ask(&mut net, 0, 0, &mut under, &mut over, none);
     answer.holds

@@ -9,6 +9,7 @@ use Rattle.formula.specs.Formula.{Formula}
 use Rattle.records.specs.Both.{Tables}
 use Rattle.net.specs.Net.{Clear}
 use Rattle.net.specs.Layout.{netForm, framesOf, packed, formulaAt, val, Ground}
+use Rattle.net.specs.Sheet.{Faithful}
 use Rattle.judge.specs.Judge.{Judged}
 pub use Rattle.imply.specs.Posed.{Found, Met, Lost, Solved, Free, Covers, Posed}
 pub use Rattle.proxies.specs.Told.{Told}
@@ -18,10 +19,12 @@ abbrev pub Settled : Formula → ℕ → ℕ → ℕ → Bool → ℕ → ℕ �
 Settled f t loose w true word r = Found f (val t) loose w word r
 Settled f t loose w false word r = Lost f (val t) loose w r
 
--- the scratch for wants and tables has three words for every node, and the records are true of the net
+-- the scratch for wants and tables has three words for every node, and the records are true of what the frames stand for, to which the net is faithful
 pub record Lent (net wants u : List ℕ) (cu : ℕ) (o : List ℕ) (co : ℕ) : Type 0 where
   pub long : 3 * length net ≤ 201 + 2 * length wants
-  pub tables : Tables (netForm net) (formulaAt net) (framesOf net) u cu o co
+  pub φ : ℕ → Formula
+  pub faithful : Faithful φ net
+  pub tables : Tables (netForm net) φ (framesOf net) u cu o co
 
 -- node i under a full candidate, or a quantifier of a question behind the frames
 pub record Checked (net : List ℕ) (i m w : ℕ) (cells : List ℕ) : Type 0 where

@@ -16,14 +16,15 @@ use Rattle.formula.specs.Reason.{explains-neg, gate-left, gate-right, explains-
 use Rattle.formula.specs.ReasonWord.{word-never, word-input, word-both}
 use Rattle.form.specs.Form.{recordStart}
 use Rattle.form.specs.declared.Form.{Form}
-use Rattle.records.specs.Both.{Tables, TablesGrown}
+use Rattle.records.specs.Both.{Tables}
 use Rattle.formula.specs.Over.{over-free}
 use Rattle.net.specs.Net.{Clear}
 use Rattle.net.specs.Clear.{clear-less, clear-sub, clear-or}
 use Rattle.net.specs.Stands.{mask-decided, mask-undecided}
-use Rattle.net.specs.Layout.{netForm, framesOf, freeOf, packed, formulaAt, Is, val, val-not, val-flip, decides, decides-some, decides-low, binds-is}
+use Rattle.net.specs.Layout.{framesOf, freeOf, packed, formulaAt, Is, val, val-not, val-flip, decides, decides-some, decides-low, binds-is}
 use Rattle.net.specs.Layout.{f-fixed, f-true, f-reads, f-flips, f-joins, f-binds, flips-below, joins-left, joins-right, binds-below}
 use Rattle.judge.specs.Judge.{Right, Judged}
+use Rattle.proxies.specs.Growing.{Growing}
 use Rattle.proxies.specs.Kept.{Shown}
 use Rattle.proxies.specs.KeptLaws.{told-of}
 use Rattle.search.specs.Search.{Met, Lost, Solved, Lent, Posed, Checked, Told, Leaf}
@@ -195,8 +196,8 @@ module _ {net : List ℕ} {i m w op left right mask : ℕ} {cells : List ℕ} (K
 -- ---- what is lent, after a call
 
 pub lent-after : {net wants wants′ u u' : List ℕ} {cu cu' : ℕ} {o o' : List ℕ} {co co' : ℕ}
-    → Lent net wants u cu o co → TablesGrown (netForm net) (formulaAt net) (framesOf net) u cu o co u' cu' o' co' → length wants′ ≡ length wants → Lent net wants′ u' cu' o' co'
-lent-after L g e = record { long = rw e (L .long); tables = g .tables }
+    → Lent net wants u cu o co → Growing net u cu o co u' cu' o' co' → length wants′ ≡ length wants → Lent net wants′ u' cu' o' co'
+lent-after L g e = record { long = rw e (L .long); φ = L .φ; faithful = L .faithful; tables = g .true-still (L .φ) (L .faithful) (L .tables) }
 
 -- counted records fit, in the form as the code has it
 pub tables-fit : {F G : Form} {φ : ℕ → Formula} {n : ℕ} {u : List ℕ} {cu : ℕ} {o : List ℕ} {co : ℕ} → F ≡ G → Tables G φ n u cu o co

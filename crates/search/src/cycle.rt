@@ -16,11 +16,12 @@ use proxies::recorded;
 use records::Counts;
 use words::w64;
 ghost use mathlib.Core.Path.{_≡_};
+ghost use mathlib.Core.Bool.{false};
 ghost use Prim.Native.Nat.{_+_, _<_, _≤_};
 ghost use Rattle.words.specs.Mask as Mask;
-ghost use Rattle.records.specs.Both.{TablesGrown};
-ghost use Rattle.net.specs.Layout.{netForm, framesOf, formulaAt, Is, decides};
+ghost use Rattle.net.specs.Layout.{netForm, framesOf, changed, Is, decides};
 ghost use Rattle.judge.specs.Judge.{Judging};
+ghost use Rattle.proxies.specs.Growing.{Growing};
 ghost use Rattle.proxies.specs.Kept.{Noted};
 ghost use Rattle.search.specs.Search.{Posed, Solved, Checked, Told, Leaf, Lent};
 
@@ -59,7 +60,7 @@ pub fn choose(
     requires { ⌜ Checked (now net) i (cube .mask) (cube .values) (now cells) ⌝ }
     requires { ⌜ Lent (now net) (now wants) (now under) (kept .under) (now over) (kept .over) ⌝ }
     ensures { λ r. ⌜ Solved (now (net .entry)) (node .left) (decides (node .op)) (node .mask) (Mask.without (cube .values) (node .mask)) (r .found) (r .word) (r .reason) × (now (cells .exit) ≡ now (cells .entry)) ⌝ }
-    ensures { λ r. ⌜ TablesGrown (netForm (now (net .entry))) (formulaAt (now (net .entry))) (framesOf (now (net .entry))) (now (under .entry)) (kept .under) (now (over .entry)) (kept .over) (now (under .exit)) (r .kept .under) (now (over .exit)) (r .kept .over) ⌝ }
+    ensures { λ r. ⌜ Growing (now (net .entry)) (now (under .entry)) (kept .under) (now (over .entry)) (kept .over) (now (under .exit)) (r .kept .under) (now (over .exit)) (r .kept .over) ⌝ }
 {
     let inner = cube.free_all(node.mask);
     let d = decided(node.op);
@@ -122,7 +123,7 @@ fn extend(
     requires { ⌜ Posed (now net) a target loose (cube .mask) (cube .values) (now cells) ⌝ }
     requires { ⌜ Lent (now net) (now wants) (now under) (kept .under) (now over) (kept .over) ⌝ }
     ensures { λ r. ⌜ Solved (now (net .entry)) a target loose (cube .values) (r .found) (r .word) (r .reason) × (now (cells .exit) ≡ now (cells .entry)) ⌝ }
-    ensures { λ r. ⌜ TablesGrown (netForm (now (net .entry))) (formulaAt (now (net .entry))) (framesOf (now (net .entry))) (now (under .entry)) (kept .under) (now (over .entry)) (kept .over) (now (under .exit)) (r .kept .under) (now (over .exit)) (r .kept .over) ⌝ }
+    ensures { λ r. ⌜ Growing (now (net .entry)) (now (under .entry)) (kept .under) (now (over .entry)) (kept .over) (now (under .exit)) (r .kept .under) (now (over .exit)) (r .kept .over) ⌝ }
 {
     let touched = begin(fresh, loose);
     let head = forward::judge(net, a, touched, cube, cells, cells::END);
@@ -147,7 +148,7 @@ fn settle(
     requires { ⌜ Posed (now net) a target loose (cube .mask) (cube .values) (now cells) ⌝ }
     requires { ⌜ Lent (now net) (now wants) (now under) (kept .under) (now over) (kept .over) ⌝ }
     ensures { λ r. ⌜ Solved (now (net .entry)) a target loose (cube .values) (r .found) (r .word) (r .reason) × (now (cells .exit) ≡ now (cells .entry)) ⌝ }
-    ensures { λ r. ⌜ TablesGrown (netForm (now (net .entry))) (formulaAt (now (net .entry))) (framesOf (now (net .entry))) (now (under .entry)) (kept .under) (now (over .entry)) (kept .over) (now (under .exit)) (r .kept .under) (now (over .exit)) (r .kept .over) ⌝ }
+    ensures { λ r. ⌜ Growing (now (net .entry)) (now (under .entry)) (kept .under) (now (over .entry)) (kept .over) (now (under .exit)) (r .kept .under) (now (over .exit)) (r .kept .over) ⌝ }
 {
     let known = known_at(&cells[..], a);
     if known.value != 0 {
@@ -193,7 +194,7 @@ fn push(
     requires { ⌜ Posed (now net) a target loose (cube .mask) (cube .values) (now cells) ⌝ }
     requires { ⌜ Lent (now net) (now wants) (now under) (kept .under) (now over) (kept .over) ⌝ }
     ensures { λ r. ⌜ Solved (now (net .entry)) a target loose (cube .values) (r .found) (r .word) (r .reason) × (now (cells .exit) ≡ now (cells .entry)) ⌝ }
-    ensures { λ r. ⌜ TablesGrown (netForm (now (net .entry))) (formulaAt (now (net .entry))) (framesOf (now (net .entry))) (now (under .entry)) (kept .under) (now (over .entry)) (kept .over) (now (under .exit)) (r .kept .under) (now (over .exit)) (r .kept .over) ⌝ }
+    ensures { λ r. ⌜ Growing (now (net .entry)) (now (under .entry)) (kept .under) (now (over .entry)) (kept .over) (now (under .exit)) (r .kept .under) (now (over .exit)) (r .kept .over) ⌝ }
 {
     let mut whys = [0u64; 64];
     let f = imply::force(net, a, target, loose, cube, &cells[..], wants, &mut whys);
@@ -257,7 +258,7 @@ fn branch(
     requires { ⌜ Posed (now net) a target loose (cube .mask) (cube .values) (now cells) ⌝ }
     requires { ⌜ Lent (now net) (now wants) (now under) (kept .under) (now over) (kept .over) ⌝ }
     ensures { λ r. ⌜ Solved (now (net .entry)) a target loose (cube .values) (r .found) (r .word) (r .reason) × (now (cells .exit) ≡ now (cells .entry)) ⌝ }
-    ensures { λ r. ⌜ TablesGrown (netForm (now (net .entry))) (formulaAt (now (net .entry))) (framesOf (now (net .entry))) (now (under .entry)) (kept .under) (now (over .entry)) (kept .over) (now (under .exit)) (r .kept .under) (now (over .exit)) (r .kept .over) ⌝ }
+    ensures { λ r. ⌜ Growing (now (net .entry)) (now (under .entry)) (kept .under) (now (over .entry)) (kept .over) (now (under .exit)) (r .kept .under) (now (over .exit)) (r .kept .over) ⌝ }
 {
     let x = w64::highest(loose);
     let only = w64::one(x);
@@ -328,7 +329,7 @@ fn candidate(
     requires { ⌜ Posed (now net) a target 0 (cube .mask) (cube .values) (now cells) ⌝ }
     requires { ⌜ Lent (now net) (now wants) (now under) (kept .under) (now over) (kept .over) ⌝ }
     ensures { λ r. ⌜ Solved (now (net .entry)) a target 0 (cube .values) (r .found) (r .word) (r .reason) × (now (cells .exit) ≡ now (cells .entry)) ⌝ }
-    ensures { λ r. ⌜ TablesGrown (netForm (now (net .entry))) (formulaAt (now (net .entry))) (framesOf (now (net .entry))) (now (under .entry)) (kept .under) (now (over .entry)) (kept .over) (now (under .exit)) (r .kept .under) (now (over .exit)) (r .kept .over) ⌝ }
+    ensures { λ r. ⌜ Growing (now (net .entry)) (now (under .entry)) (kept .under) (now (over .entry)) (kept .over) (now (under .exit)) (r .kept .under) (now (over .exit)) (r .kept .over) ⌝ }
 {
     let c = check(net, a, cube, cells, wants, cells::END, under, over, kept);
     cells::undo(cells, c.head);
@@ -365,7 +366,7 @@ fn check(
     requires { ⌜ (i < framesOf (now net) + 2) × Checked (now net) i (cube .mask) (cube .values) (now cells) ⌝ }
     requires { ⌜ Lent (now net) (now wants) (now under) (kept .under) (now over) (kept .over) ⌝ }
     ensures { λ r. ⌜ Told (now (net .entry)) (cube .mask) (cube .values) i (r .value) (r .reason) × Judging (now (net .entry)) (cube .mask) (cube .values) (now (cells .entry)) head (now (cells .exit)) (r .head) ⌝ }
-    ensures { λ r. ⌜ TablesGrown (netForm (now (net .entry))) (formulaAt (now (net .entry))) (framesOf (now (net .entry))) (now (under .entry)) (kept .under) (now (over .entry)) (kept .over) (now (under .exit)) (r .kept .under) (now (over .exit)) (r .kept .over) ⌝ }
+    ensures { λ r. ⌜ Growing (now (net .entry)) (now (under .entry)) (kept .under) (now (over .entry)) (kept .over) (now (under .exit)) (r .kept .under) (now (over .exit)) (r .kept .over) ⌝ }
 {
     let known = known_at(&cells[..], i);
     if known.value != 0 {
@@ -435,7 +436,7 @@ fn evaluate(
     requires { ⌜ (i < framesOf (now net) + 2) × Checked (now net) i (cube .mask) (cube .values) (now cells) ⌝ }
     requires { ⌜ Lent (now net) (now wants) (now under) (kept .under) (now over) (kept .over) ⌝ }
     ensures { λ r. ⌜ Told (now (net .entry)) (cube .mask) (cube .values) i (r .value) (r .reason) × Judging (now (net .entry)) (cube .mask) (cube .values) (now (cells .entry)) head (now (cells .exit)) (r .head) ⌝ }
-    ensures { λ r. ⌜ TablesGrown (netForm (now (net .entry))) (formulaAt (now (net .entry))) (framesOf (now (net .entry))) (now (under .entry)) (kept .under) (now (over .entry)) (kept .over) (now (under .exit)) (r .kept .under) (now (over .exit)) (r .kept .over) ⌝ }
+    ensures { λ r. ⌜ Growing (now (net .entry)) (now (under .entry)) (kept .under) (now (over .entry)) (kept .over) (now (under .exit)) (r .kept .under) (now (over .exit)) (r .kept .over) ⌝ }
 {
     let node = node_at(net, i);
     let op = node.op;
@@ -481,7 +482,7 @@ fn gate(
     requires { ⌜ (i < framesOf (now net) + 2) × Checked (now net) i (cube .mask) (cube .values) (now cells) ⌝ }
     requires { ⌜ Lent (now net) (now wants) (now under) (kept .under) (now over) (kept .over) ⌝ }
     ensures { λ r. ⌜ Told (now (net .entry)) (cube .mask) (cube .values) i (r .value) (r .reason) × Judging (now (net .entry)) (cube .mask) (cube .values) (now (cells .entry)) head (now (cells .exit)) (r .head) ⌝ }
-    ensures { λ r. ⌜ TablesGrown (netForm (now (net .entry))) (formulaAt (now (net .entry))) (framesOf (now (net .entry))) (now (under .entry)) (kept .under) (now (over .entry)) (kept .over) (now (under .exit)) (r .kept .under) (now (over .exit)) (r .kept .over) ⌝ }
+    ensures { λ r. ⌜ Growing (now (net .entry)) (now (under .entry)) (kept .under) (now (over .entry)) (kept .over) (now (under .exit)) (r .kept .under) (now (over .exit)) (r .kept .over) ⌝ }
 {
     let d = node.op - 3;
     let c = check(net, node.left, cube, cells, wants, head, under, over, kept);
@@ -512,7 +513,8 @@ fn gate(
     }
 }
 
-// The value of a quantifier. An agreeing record settles it; else its body is searched, and what that shows is kept. Behind the frames there are no records.
+// The value of a quantifier. An agreeing record settles it; else its body is searched, and what that shows is kept. Behind the frames, and
+// of a changed node, there are no records.
 fn quantified(
     net: &[u64],
     i: usize,
@@ -529,8 +531,8 @@ fn quantified(
     requires { ⌜ (i < framesOf (now net) + 2) × Checked (now net) i (cube .mask) (cube .values) (now cells) ⌝ }
     requires { ⌜ Lent (now net) (now wants) (now under) (kept .under) (now over) (kept .over) ⌝ }
     ensures { λ r. ⌜ Told (now (net .entry)) (cube .mask) (cube .values) i (r .value) (r .reason) × Judging (now (net .entry)) (cube .mask) (cube .values) (now (cells .entry)) head (now (cells .exit)) (r .head) ⌝ }
-    ensures { λ r. ⌜ TablesGrown (netForm (now (net .entry))) (formulaAt (now (net .entry))) (framesOf (now (net .entry))) (now (under .entry)) (kept .under) (now (over .entry)) (kept .over) (now (under .exit)) (r .kept .under) (now (over .exit)) (r .kept .over) ⌝ }
-    ensures { λ r. ⌜ (i < framesOf (now (net .entry)) → Noted (netForm (now (net .entry))) i (r .value) (cube .values) (now (under .exit)) (r .kept .under) (now (over .exit)) (r .kept .over)) ⌝ }
+    ensures { λ r. ⌜ Growing (now (net .entry)) (now (under .entry)) (kept .under) (now (over .entry)) (kept .over) (now (under .exit)) (r .kept .under) (now (over .exit)) (r .kept .over) ⌝ }
+    ensures { λ r. ⌜ (i < framesOf (now (net .entry)) → changed (now (net .entry)) i ≡ false → Noted (netForm (now (net .entry))) i (r .value) (cube .values) (now (under .exit)) (r .kept .under) (now (over .exit)) (r .kept .over)) ⌝ }
 {
     let known = recorded(net, i, cube.values, &under[..], &over[..], kept);
     if known.value != 0 {

@@ -15,11 +15,11 @@ use Rattle.formula.specs.Reason.{Explains}
 use Rattle.formula.specs.Over.{over, over-free, over-none, bounded-over}
 use Rattle.formula.specs.Ask.{Bounded}
 use Rattle.sheet.specs.Fields.{Sheet, variables}
-use Rattle.net.specs.Stands.{Stands, over-stands}
+use Rattle.net.specs.Stands.{Serves, over-serves}
 use Rattle.net.specs.Layout.{freeOf}
 use Rattle.imply.specs.Halves.{apart-inside}
 use Rattle.solver.specs.Contract.{root, Ready}
-use Rattle.solver.specs.Across.{root-stands, bit-opens, tables-net}
+use Rattle.solver.specs.Across.{root-serves, bit-opens}
 use Rattle.solver.specs.Question.{asked, Asking}
 use Rattle.solver.specs.Ask.{ready-some, ready-bounded}
 
@@ -52,8 +52,8 @@ asked-none s = over-none false (over true 0 (root s)) ∙ over-none true (root s
 
 module _ {s : Sheet} {net : List ℕ} {m y : ℕ} {u : List ℕ} {cu : ℕ} {o : List ℕ} {co : ℕ} (R : Ready s net m y u cu o co)
     {all some : ℕ} (A : Aimed net all some m) where
-  pub aimed-stands : Stands (askedOf s all some) (asked net all some)
-  aimed-stands = over-stands false all (over-stands true some (root-stands (R .net-of) (ready-some R)))
+  pub aimed-serves : Serves (askedOf s all some) (asked net all some)
+  aimed-serves = over-serves false all (over-serves true some (root-serves (R .net-of)))
 
   pub aimed-bounded : Bounded (variables s) (askedOf s all some)
   aimed-bounded = bounded-over false all (bounded-over true some (ready-bounded R))
@@ -62,7 +62,7 @@ module _ {s : Sheet} {net : List ℕ} {m y : ℕ} {u : List ℕ} {cu : ℕ} {o :
   aimed-free : (k : ℕ) → free (askedOf s all some) k ≡ bit (without (freeOf net) (bitOr some all)) k
   aimed-free k =
       over-free false all (over true some (root s)) k
-      ∙ ap (λ (b : Bool). b && not (bit all k)) (over-free true some (root s) k ∙ ap (λ (b : Bool). b && not (bit some k)) (sym (bit-opens (R .net-of) (ready-some R) k)))
+      ∙ ap (λ (b : Bool). b && not (bit all k)) (over-free true some (root s) k ∙ ap (λ (b : Bool). b && not (bit some k)) (sym (bit-opens (R .net-of) k)))
       ∙ go (bit (freeOf net) k) (bit some k) (bit all k)
       ∙ sym (bit-without (freeOf net) (bitOr some all) k ∙ ap (λ (b : Bool). bit (freeOf net) k && not b) (bit-or some all k))
     where
@@ -108,7 +108,7 @@ module _ {s : Sheet} {net : List ℕ} {m y : ℕ} {u : List ℕ} {cu : ℕ} {o :
           go (bit (freeOf net) x) (bit (bitOr some all) x) (bit m′ x) f (p .0)
           (sym (ap (λ (z : ℕ). bit z x) el ∙ bit-without q m′ x
           ∙ ap (λ (d : Bool). d && not (bit m′ x)) (ap (λ (z : ℕ). bit z x) eq ∙ bit-without (freeOf net) (bitOr some all) x)) ∙ p .1);
-      tables = tables-net (R .net-of) (R .tables);
+      tables = R .tables;
     }
       where
         go : (a b c : Bool) → a ≡ true → b ≡ false → ((a && not b) && not c) ≡ false → c ≡ true

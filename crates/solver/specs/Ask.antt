@@ -25,12 +25,12 @@ use Rattle.sheet.specs.Frames.{formula}
 use Rattle.records.specs.Table.{Valid, Grown, Kept, matches, grown-refl, grown-trans}
 use Rattle.records.specs.Put.{Put, valid-put, kept-put}
 use Rattle.records.specs.Search.{FirstBelow, first-kept}
-use Rattle.records.specs.Both as Both
 use Rattle.net.specs.Layout.{netForm, framesOf, freeOf, formulaAt, val}
 use Rattle.net.specs.Sheet.{net-form}
+use Rattle.proxies.specs.Growing.{Growing}
 use Rattle.search.specs.Search.{Found, Lost}
 use Rattle.solver.specs.Contract.{last, root, Ready, TablesGrown, Same}
-use Rattle.solver.specs.Across.{found-stands, lost-stands, root-stands, root-bounded, bit-opens, grown-sheet}
+use Rattle.solver.specs.Across.{found-serves, lost-serves, root-serves, bit-opens, grown-sheet}
 use Rattle.solver.specs.Question.{asked}
 
 -- document 01's promise after such an ASK: the table concerned is full, or holds a record of the last frame that agrees with the word (yes), or with the
@@ -71,23 +71,23 @@ module _ {s : Sheet} {net : List ℕ} {mask values : ℕ} {u : List ℕ} {cu : �
   ready-some = omega (arith, R .checked .some, R .net-of .count)
 
   pub ready-bounded : Bounded (variables s) (root s)
-  ready-bounded = root-bounded (R .net-of) ready-some
+  ready-bounded = R .net-of .bounded
 
   -- what is found or lost is so of the sheet
   pub ready-found : {v : Bool} {loose w word r : ℕ} → Found (asked net 0 0) v loose w word r → Found (root s) v loose w word r
-  ready-found h = found-stands (root-stands (R .net-of) ready-some) (rw (asked-none net) at h)
+  ready-found h = found-serves (root-serves (R .net-of)) (rw (asked-none net) at h)
 
   pub ready-lost : {v : Bool} {loose w r : ℕ} → Lost (asked net 0 0) v loose w r → Lost (root s) v loose w r
-  ready-lost h = lost-stands (root-stands (R .net-of) ready-some) (rw (asked-none net) at h)
+  ready-lost h = lost-serves (root-serves (R .net-of)) (rw (asked-none net) at h)
 
   pub ready-grown : {u' : List ℕ} {cu' : ℕ} {o' : List ℕ} {co' : ℕ}
-      → Both.TablesGrown (netForm net) (formulaAt net) (framesOf net) u cu o co u' cu' o' co' → TablesGrown s u cu o co u' cu' o' co'
-  ready-grown G = grown-sheet (R .net-of) G
+      → Growing net u cu o co u' cu' o' co' → TablesGrown s u cu o co u' cu' o' co'
+  ready-grown G = grown-sheet (R .net-of) (R .tables) G
 
   -- ---- reasons and words
 
   pub reason-free : {r : ℕ} {v : Bool} {w : Assignment} → Explains (root s) v (bit r) w → Sub r (freeOf net)
-  reason-free {r} E = sub-bits r (freeOf net) (λ k e. bit-opens (R .net-of) ready-some k ∙ E .inside k e)
+  reason-free {r} E = sub-bits r (freeOf net) (λ k e. bit-opens (R .net-of) k ∙ E .inside k e)
 
   -- a reason that avoids the free variables off m lies in m
   pub reason-inside : {m r : ℕ} {v : Bool} {w : Assignment} → Explains (root s) v (bit r) w → Apart r (without (freeOf net) m) → Sub r m
@@ -131,7 +131,7 @@ module _ {s : Sheet} {net : List ℕ} {mask values : ℕ} {u : List ℕ} {cu : �
   -- ---- the verdict with its record, as the code has them: f and n are read off the net, and a record is put of the low parts of words
 
   module _ {F : Form} {f loose m w n : ℕ} {u1 : List ℕ} {c1 : ℕ} {o1 : List ℕ} {d1 : ℕ} (eF : F ≡ netForm net) (ef : f ≡ freeOf net) (el : loose ≡ without f mask) (M : Made mask values m w) (en : n ≡ framesOf net)
-      (G : Both.TablesGrown (netForm net) (formulaAt net) (framesOf net) u cu o co u1 c1 o1 d1) where
+      (G : Growing net u cu o co u1 c1 o1 d1) where
     loose-is : loose ≡ without (freeOf net) mask
     loose-is = rw ef at el
 

@@ -25,12 +25,12 @@ use Rattle.sheet.specs.Frames.{formula}
 use Rattle.sheet.specs.Rules.{gauges}
 use Rattle.records.specs.Table.{grown-trans}
 use Rattle.records.specs.Both.{tables-then}
-use Rattle.net.specs.Stands.{Stands, over-stands, mask-below}
+use Rattle.net.specs.Stands.{Serves, over-serves, mask-below}
 use Rattle.net.specs.Layout.{netForm, framesOf, freeOf, gaugesOf, formulaAt, val}
 use Rattle.net.specs.Sheet.{NetOf, net-form}
 use Rattle.search.specs.Search.{Settled, Found, Lost}
 use Rattle.solver.specs.Contract.{last, root, Ready, TablesGrown, verdictOf, unreadOf, oursOf, Promised, Same}
-use Rattle.solver.specs.Across.{found-stands, lost-stands, root-stands, tables-net}
+use Rattle.solver.specs.Across.{found-serves, lost-serves, root-serves}
 use Rattle.solver.specs.Question.{asked, Asking}
 use Rattle.solver.specs.Ask.{PromisedChosen, Ensured, ready-some, ready-bounded, low-same}
 
@@ -104,21 +104,21 @@ module _ {s : Sheet} {net : List ℕ} {mask values : ℕ} {u : List ℕ} {cu : �
     valued = made-sub M;
     fixed = rw (or-zero-r some, es, el, M .mask) (or-apart (ours-entered n f g mask) (unread-apart n f g mask));
     whole = λ x h k. rw (M .mask) (whole x h (rw (or-zero-r some, es, el) at k));
-    tables = tables-net (R .net-of) (R .tables);
+    tables = R .tables;
   }
     where
       whole : (x : ℕ) → bit (freeOf net) x ≡ true → bit (bitOr (oursOf s mask) (unreadOf s mask)) x ≡ false → bit mask x ≡ true
       whole x h k = let p = or-false (bit (oursOf s mask) x) (bit (unreadOf s mask) x) (sym (bit-or (oursOf s mask) (unreadOf s mask) x) ∙ k) in parted x h (p .1) (p .0)
 
   -- what the search shows is so of the sheet
-  possible-stands : Stands (possible n f g mask) (asked net 0 (oursOf s mask))
+  possible-serves : Serves (possible n f g mask) (asked net 0 (oursOf s mask))
   unfolding possible
-  possible-stands = rw (over-none false (over true (oursOf s mask) (formulaAt net (framesOf net - 1)))) (over-stands true (oursOf s mask) (root-stands (R .net-of) (ready-some R)))
+  possible-serves = rw (over-none false (over true (oursOf s mask) (formulaAt net (framesOf net - 1)))) (over-serves true (oursOf s mask) (root-serves (R .net-of)))
 
   pub failing-settled : (t : ℕ) {loose some w : ℕ} (found : Bool) (word r : ℕ) → loose ≡ unreadOf s mask → some ≡ oursOf s mask → w ≡ values
       → Settled (asked net 0 some) t loose w found word r → Settled (possible n f g mask) t (unreadOf s mask) values found word r
-  failing-settled t true word r el es ew h = found-stands possible-stands (rw (el, es, ew) at h)
-  failing-settled t false word r el es ew h = lost-stands possible-stands (rw (el, es, ew) at h)
+  failing-settled t true word r el es ew h = found-serves possible-serves (rw (el, es, ew) at h)
+  failing-settled t false word r el es ew h = lost-serves possible-serves (rw (el, es, ew) at h)
 
   -- ---- nothing is unread: the verdict is the chosen one
 

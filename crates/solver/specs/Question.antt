@@ -10,9 +10,11 @@ use Rattle.words.specs.Mask.{Sub, Apart}
 use Rattle.formula.specs.Formula.{Formula}
 use Rattle.formula.specs.Over.{over}
 use Rattle.sheet.specs.Fields.{Sheet}
+use Rattle.sheet.specs.Fields as Fields
+use Rattle.sheet.specs.Frames.{formula}
 use Rattle.records.specs.Both.{Tables}
 use Rattle.net.specs.Net.{Binds}
-use Rattle.net.specs.Layout.{netForm, framesOf, freeOf, packed, formulaAt, val}
+use Rattle.net.specs.Layout.{framesOf, freeOf, packed, formulaAt, val}
 use Rattle.net.specs.Sheet.{NetOf}
 use Rattle.net.specs.Own.{Stacked}
 
@@ -39,14 +41,14 @@ pub record Masks (s : Sheet) (net : List ℕ) (t loose all some : ℕ) : Type 0 
   pub some-all : Apart some all
   pub inner-loose : Apart (bitOr some all) loose
 
--- the cube m, w fixes all other free variables, and the records are true
+-- the cube m, w fixes all other free variables, and the records are true of the sheet
 pub record Asking (s : Sheet) (net : List ℕ) (t loose all some m w : ℕ) (u : List ℕ) (cu : ℕ) (o : List ℕ) (co : ℕ) : Type 0 where
   pub masks : Masks s net t loose all some
   pub assigned : Sub m (freeOf net)
   pub valued : Sub w m
   pub fixed : Apart (bitOr (bitOr some all) loose) m
   pub whole : (x : ℕ) → bit (freeOf net) x ≡ true → bit (bitOr (bitOr some all) loose) x ≡ false → bit m x ≡ true
-  pub tables : Tables (netForm net) (formulaAt net) (framesOf net) u cu o co
+  pub tables : Tables (s .form) (formula s) (Fields.frames s) u cu o co
 
 -- one quantifier more, at place i, where its mask has variables: r places are in use then
 pub record Layered (net : List ℕ) (i d mask : ℕ) (net′ : List ℕ) (r : ℕ) : Type 0 where

@@ -15,18 +15,18 @@ use Rattle.formula.specs.Formula.{Formula, free}
 use Rattle.formula.specs.Over.{over, over-free, over-none}
 use Rattle.form.specs.declared.Form.{Form}
 use Rattle.sheet.specs.Fields.{Sheet}
-use Rattle.records.specs.Both.{TablesGrown}
+use Rattle.sheet.specs.Frames.{formula}
 use Rattle.net.specs.Net.{at-binds}
-use Rattle.net.specs.Stands.{Stands, stands-refl}
 use Rattle.net.specs.Layout.{netWords, netForm, form-same, framesOf, freeOf, formulaAt, Ground, HasNode, Is, val, decides}
-use Rattle.net.specs.Sheet.{net-form}
+use Rattle.net.specs.Sheet.{Faithful, net-form, net-faithful}
 use Rattle.net.specs.Own.{Chosen, Stacked}
 use Rattle.net.specs.OwnLaws.{stacked-none, stacked-more, chosen-same, chosen-node, chosen-formula, is-chosen, is-chosen-val}
+use Rattle.proxies.specs.Growing.{Growing}
 use Rattle.judge.specs.Judge.{Judged}
 use Rattle.judge.specs.JudgeLaws.{judged-none}
 use Rattle.imply.specs.Halves.{met-found}
 use Rattle.search.specs.Search.{Settled, Solved, Checked, Lent}
-use Rattle.solver.specs.Across.{tables-stands, grown-stands, root-stands, bit-opens}
+use Rattle.solver.specs.Across.{root-serves, bit-opens}
 use Rattle.solver.specs.Question.{asked, Masks, Asking, Layered, Placed, Scratch}
 
 -- scratch that is all 0, of n words
@@ -107,11 +107,13 @@ module _ {s : Sheet} {net : List ℕ} {t loose all some m w : ℕ} {u : List ℕ
   kept-values : without w loose ≡ w
   kept-values = omega (arith, without-sum w loose, apart-sub (apart-sym (apart-sub (A .fixed) (A .valued))) (sub-or-right (bitOr some all) loose) .none)
 
-  frame-stands : (k : ℕ) → k < framesOf net → Stands (formulaAt net k) (formulaAt net′ k)
-  frame-stands k l = rw (P .stacked .same k l) (stands-refl (formulaAt net k))
-
-  frame-stood : (k : ℕ) → k < framesOf net′ → Stands (formulaAt net′ k) (formulaAt net k)
-  frame-stood k l = rw (P .stacked .same k (omega (arith, P .stacked .frames-same))) (stands-refl (formulaAt net k))
+  -- its frames stand for what they stood for
+  still-faithful : {φ : ℕ → Formula} → Faithful φ net → Faithful φ net′
+  still-faithful B = record {
+    each = λ k l q.
+        let h : k < framesOf net = rw (P .stacked .frames-same) at l in
+        rw (P .stacked .same k h) (B .each k h (sym (P .stacked .changes k h) ∙ q));
+  }
 
   pub asked-ground : Ground net′
   asked-ground = P .stacked .ground
@@ -131,7 +133,7 @@ module _ {s : Sheet} {net : List ℕ} {t loose all some m w : ℕ} {u : List ℕ
       let q = and-both (free (over true some f) x) (not (bit all x)) (sym (over-free false all (over true some f) x) ∙ p .0) in
       let r = and-both (free f x) (not (bit some x)) (sym (over-free true some f x) ∙ q .0) in
       A .whole x
-      (bit-opens (A .masks .net-of) (A .masks .frames) x ∙ sym (root-stands (A .masks .net-of) (A .masks .frames) .reads x) ∙ r .0)
+      (bit-opens (A .masks .net-of) x ∙ root-serves (A .masks .net-of) .fewer x (r .0))
       (bit-or (bitOr some all) loose x ∙ rw (bit-or some all x, not-true (bit some x) (r .1), not-true (bit all x) (q .1), not-true (bit loose x) (p .1)))
 
   same-free : freeOf net′ ≡ freeOf net
@@ -156,7 +158,9 @@ module _ {s : Sheet} {net : List ℕ} {t loose all some m w : ℕ} {u : List ℕ
   pub asked-lent : {cells wants : List ℕ} → Scratch net cells wants → Lent net′ wants u cu o co
   asked-lent S = record {
     long = omega (arith, P .stacked .long, S .enough, S .wanted);
-    tables = tables-stands frame-stood (rw (P .stacked .frames-same, same-form) (A .tables));
+    φ = formula s;
+    faithful = still-faithful (net-faithful (A .masks .net-of));
+    tables = rw (P .stacked .frames-same, A .masks .net-of .count, same-form, net-form (A .masks .net-of)) (A .tables);
   }
 
   module _ {op left right mask : ℕ} (I : Is net′ own op left right mask) where
@@ -190,5 +194,9 @@ module _ {s : Sheet} {net : List ℕ} {t loose all some m w : ℕ} {u : List ℕ
 
   -- and the tables that the search leaves
   pub asked-grown : {u' : List ℕ} {cu' : ℕ} {o' : List ℕ} {co' : ℕ}
-      → TablesGrown (netForm net′) (formulaAt net′) (framesOf net′) u cu o co u' cu' o' co' → TablesGrown (netForm net) (formulaAt net) (framesOf net) u cu o co u' cu' o' co'
-  asked-grown G = grown-stands frame-stands (rw (P .stacked .frames-same, same-form) at G)
+      → Growing net′ u cu o co u' cu' o' co' → Growing net u cu o co u' cu' o' co'
+  asked-grown G = record {
+    under = rw same-form at (G .under);
+    over = rw same-form at (G .over);
+    true-still = λ φ B T. rw (P .stacked .frames-same, same-form) at (G .true-still φ (still-faithful B) (rw (P .stacked .frames-same, same-form) T));
+  }

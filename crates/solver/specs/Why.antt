@@ -24,10 +24,10 @@ use Rattle.net.specs.Sheet.{net-form}
 use Rattle.search.specs.Search.{Found, Lost}
 use Rattle.imply.specs.Halves.{bit-plus, off-mask, or-none}
 use Rattle.solver.specs.Contract.{Ready, TablesGrown}
-use Rattle.solver.specs.Across.{found-stands, lost-stands}
+use Rattle.solver.specs.Across.{found-serves, lost-serves}
 use Rattle.solver.specs.Question.{asked, Asking}
 use Rattle.form.specs.Form as Sizes
-use Rattle.solver.specs.Aim.{askedOf, Aimed, aimed-stands, aimed-bounded, aimed-inside, aimed-asking, off-cube}
+use Rattle.solver.specs.Aim.{askedOf, Aimed, aimed-serves, aimed-bounded, aimed-inside, aimed-asking, off-cube}
 
 -- what is left of w is the cube m, y, inside which the variables of r force the truth v of φ
 pub record Held (φ : Formula) (v w m y r : ℕ) : Type 0 where
@@ -97,7 +97,7 @@ module _ {s : Sheet} {net : List ℕ} {m y : ℕ} {u : List ℕ} {cu : ℕ} {o :
     }
       where
         lost : Lost (askedOf s all some) (val (3 - v)) loose y′ z
-        lost = lost-stands (aimed-stands R A) h
+        lost = lost-serves (aimed-serves R A) h
 
         truth-is : not (val (3 - v)) ≡ val v
         truth-is = ap not (val-flip v a b) ∙ not-not (val v)
@@ -119,7 +119,7 @@ module _ {s : Sheet} {net : List ℕ} {m y : ℕ} {u : List ℕ} {cu : ℕ} {o :
     }
       where
         found : Found (askedOf s all some) (val (3 - v)) loose y′ word z
-        found = found-stands (aimed-stands R A) h
+        found = found-serves (aimed-serves R A) h
 
         chosen-off : Apart m′ (found .chosen)
         chosen-off = apart-sub (apart-sym (off-cube R A eq el)) (found .inside)

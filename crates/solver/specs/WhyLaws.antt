@@ -17,14 +17,14 @@ use Rattle.net.specs.Layout.{freeOf, val, gaugesOf}
 use Rattle.search.specs.Search.{Found, Lost}
 use Rattle.imply.specs.Halves.{bit-plus, or-none, off-sub}
 use Rattle.solver.specs.Contract.{root, Ready, TablesGrown, verdictOf, reasonOf, unreadOf, oursOf, Same}
-use Rattle.solver.specs.Across.{found-stands, lost-stands}
+use Rattle.solver.specs.Across.{found-serves, lost-serves}
 use Rattle.solver.specs.Question.{asked}
 use Rattle.solver.specs.Ask.{reason-free, word-free, ask-found, ask-lost}
 use Rattle.formula.specs.Gauges.{possible, assured}
 use Rattle.formula.specs.GaugeLaws.{unread-free, unread-apart, ours-free, ours-entered, ours-unread, verdict-holds, assured-entered, reason-plain, reason-is}
 use Rattle.sheet.specs.Rules.{gauges}
 use Rattle.solver.specs.GaugedAsk.{ready-entries}
-use Rattle.solver.specs.Aim.{askedOf, Aimed, aimed-none, asked-none, aimed-stands, aimed-inside, plain-reach}
+use Rattle.solver.specs.Aim.{askedOf, Aimed, aimed-none, asked-none, aimed-serves, aimed-inside, plain-reach}
 use Rattle.solver.specs.Why.{Held}
 
 -- a cube of free variables to start from, with the tables that the search left
@@ -50,7 +50,7 @@ module _ {s : Sheet} {net : List ℕ} {mask values : ℕ} {u : List ℕ} {cu : �
   -- a yes: the free variables, with the word that was found
   module _ {word r n y : ℕ} (h : Found (asked net 0 0) (val 2) loose w word r) (N : Made f word n y) where
     found : Found (askedOf s 0 0) (val 2) loose w word r
-    found = found-stands (aimed-stands R (aimed-none net mask)) h
+    found = found-serves (aimed-serves R (aimed-none net mask)) h
 
     found-root : Found (root s) (val 2) loose w word r
     found-root = rw (asked-none s) at found
@@ -73,7 +73,7 @@ module _ {s : Sheet} {net : List ℕ} {mask values : ℕ} {u : List ℕ} {cu : �
   -- a no: the entries
   module _ {r : ℕ} (h : Lost (asked net 0 0) (val 2) loose w r) where
     lost : Lost (askedOf s 0 0) (val 2) loose w r
-    lost = lost-stands (aimed-stands R (aimed-none net mask)) h
+    lost = lost-serves (aimed-serves R (aimed-none net mask)) h
 
     pub held-no : Held (askedOf s 0 0) 1 w m w r
     unfolding val

@@ -11,8 +11,8 @@ ghost use mathlib.Core.Path.{_≡_};
 ghost use Prim.Native.Nat.{_<_, _≤_};
 ghost use lib.ListN.{length};
 ghost use Rattle.sheet.specs.Fields.{Sheet};
-ghost use Rattle.records.specs.Both.{TablesGrown};
-ghost use Rattle.net.specs.Layout.{netForm, framesOf, formulaAt, Ground};
+ghost use Rattle.net.specs.Layout.{framesOf, Ground};
+ghost use Rattle.proxies.specs.Growing.{Growing};
 ghost use Rattle.search.specs.Search.{Settled};
 ghost use Rattle.solver.specs.Question.{asked, Masks, Asking, Layered, Placed, Scratch};
 
@@ -73,7 +73,7 @@ fn solve_in(
     requires { ⌜ ((s : Sheet) × Asking s (now net) (q .target) (q .loose) (q .all) (q .some) (cube .mask) (cube .values) (now under) (kept .under) (now over) (kept .over)) ⌝ }
     requires { ⌜ Scratch (now net) (now cells) (now wants) ⌝ }
     ensures { λ r. ⌜ Settled (asked (now (net .entry)) (q .all) (q .some)) (q .target) (q .loose) (cube .values) (r .found) (r .word) (r .reason) ⌝ }
-    ensures { λ r. ⌜ TablesGrown (netForm (now (net .entry))) (formulaAt (now (net .entry))) (framesOf (now (net .entry))) (now (under .entry)) (kept .under) (now (over .entry)) (kept .over) (now (under .exit)) (r .kept .under) (now (over .exit)) (r .kept .over) ⌝ }
+    ensures { λ r. ⌜ Growing (now (net .entry)) (now (under .entry)) (kept .under) (now (over .entry)) (kept .over) (now (under .exit)) (r .kept .under) (now (over .exit)) (r .kept .over) ⌝ }
     ensures { λ r. ⌜ now (net .exit) ≡ now (net .entry) ⌝ }
 {
     let own = pose(net, q);
@@ -114,7 +114,7 @@ fn solve_narrow(
     requires { ⌜ ((s : Sheet) × Asking s (now net) (q .target) (q .loose) (q .all) (q .some) (cube .mask) (cube .values) (now under) (kept .under) (now over) (kept .over)) ⌝ }
     requires { ⌜ length (now net) ≤ 473 ⌝ }
     ensures { λ r. ⌜ Settled (asked (now (net .entry)) (q .all) (q .some)) (q .target) (q .loose) (cube .values) (r .found) (r .word) (r .reason) ⌝ }
-    ensures { λ r. ⌜ TablesGrown (netForm (now (net .entry))) (formulaAt (now (net .entry))) (framesOf (now (net .entry))) (now (under .entry)) (kept .under) (now (over .entry)) (kept .over) (now (under .exit)) (r .kept .under) (now (over .exit)) (r .kept .over) ⌝ }
+    ensures { λ r. ⌜ Growing (now (net .entry)) (now (under .entry)) (kept .under) (now (over .entry)) (kept .over) (now (under .exit)) (r .kept .under) (now (over .exit)) (r .kept .over) ⌝ }
     ensures { λ r. ⌜ now (net .exit) ≡ now (net .entry) ⌝ }
 {
     let mut cells = [0u64; 406];
@@ -134,7 +134,7 @@ fn solve_wide(
     requires { ⌜ ((s : Sheet) × Asking s (now net) (q .target) (q .loose) (q .all) (q .some) (cube .mask) (cube .values) (now under) (kept .under) (now over) (kept .over)) ⌝ }
     requires { ⌜ length (now net) ≤ 6073 ⌝ }
     ensures { λ r. ⌜ Settled (asked (now (net .entry)) (q .all) (q .some)) (q .target) (q .loose) (cube .values) (r .found) (r .word) (r .reason) ⌝ }
-    ensures { λ r. ⌜ TablesGrown (netForm (now (net .entry))) (formulaAt (now (net .entry))) (framesOf (now (net .entry))) (now (under .entry)) (kept .under) (now (over .entry)) (kept .over) (now (under .exit)) (r .kept .under) (now (over .exit)) (r .kept .over) ⌝ }
+    ensures { λ r. ⌜ Growing (now (net .entry)) (now (under .entry)) (kept .under) (now (over .entry)) (kept .over) (now (under .exit)) (r .kept .under) (now (over .exit)) (r .kept .over) ⌝ }
     ensures { λ r. ⌜ now (net .exit) ≡ now (net .entry) ⌝ }
 {
     let mut cells = [0u64; 6006];
@@ -154,7 +154,7 @@ pub fn solve(
 ) -> Outcome
     requires { ⌜ ((s : Sheet) × Asking s (now net) (q .target) (q .loose) (q .all) (q .some) (cube .mask) (cube .values) (now under) (kept .under) (now over) (kept .over)) ⌝ }
     ensures { λ r. ⌜ Settled (asked (now (net .entry)) (q .all) (q .some)) (q .target) (q .loose) (cube .values) (r .found) (r .word) (r .reason) ⌝ }
-    ensures { λ r. ⌜ TablesGrown (netForm (now (net .entry))) (formulaAt (now (net .entry))) (framesOf (now (net .entry))) (now (under .entry)) (kept .under) (now (over .entry)) (kept .over) (now (under .exit)) (r .kept .under) (now (over .exit)) (r .kept .over) ⌝ }
+    ensures { λ r. ⌜ Growing (now (net .entry)) (now (under .entry)) (kept .under) (now (over .entry)) (kept .over) (now (under .exit)) (r .kept .under) (now (over .exit)) (r .kept .over) ⌝ }
     ensures { λ r. ⌜ now (net .exit) ≡ now (net .entry) ⌝ }
 {
     let form = net::form(&net[..]);

@@ -1,4 +1,4 @@
--- `net::decode::load` meets its contract: the frames are stored, the head set, the net nested and linked. Assumes nothing.
+-- `net::decode::load` meets its contract: the frames are stored, the head set, the net nested. Assumes nothing.
 use mathlib.Core.Path.{sym}
 use denote.Ref.{now}
 use lib.ListN.{length}
@@ -6,7 +6,6 @@ use borrow.Author.Tests.{lt-ltb}
 use Rattle.form.specs.Form.{formOf}
 use Rattle.sheet.specs.Fields.{sheetOf, frames-of}
 use Rattle.net.specs.LoadLaws.{loading-none, loaded-net}
-use Rattle.net.specs.LinkLaws.{linked-net}
 use borrow.Author.Needs.{needs}
 use Rattle.net.proofs.decode.load.Statement.{statement}
 use Rattle.net.proofs.decode.load.Tie as tie
@@ -29,21 +28,15 @@ nest-requires c κs =
     let n = frames-of (length (now (a .sheet))) (c .before .before .before .before .before .before .of .ensures) (c .before .before .before .before .frames .ensures) in
     (sheetOf (formOf (a .wide)) (now (a .sheet)), loaded-net (c .before .before .before .before .before .before .before .before .before .before .before .before .before .pre .0) (c .before .before .before .before .before .before .before .before .before .before .before .before .before .pre .1) (c .before .before .before .before .before .before .before .before .before .load-frames .ensures) n (c .before .before .before .head .ensures))
 
-link-requires : tie.Need-link-requires
-link-requires c κs =
-    let a = c .before .before .before .before .before .before .before .before .before .before .before .before .before .before .before .before .before .args in
-    let n = frames-of (length (now (a .sheet))) (c .before .before .before .before .before .before .before .before .before .before .of .ensures) (c .before .before .before .before .before .before .before .before .frames .ensures) in
-    c .before .before .before .nest .ensures (sheetOf (formOf (a .wide)) (now (a .sheet)))
-    (loaded-net (c .before .before .before .before .before .before .before .before .before .before .before .before .before .before .before .before .before .pre .0) (c .before .before .before .before .before .before .before .before .before .before .before .before .before .before .before .before .before .pre .1) (c .before .before .before .before .before .before .before .before .before .before .before .before .before .load-frames .ensures) n (c .before .before .before .before .before .before .before .head .ensures)) .ground
-
 same-length : tie.Need-same-length
 same-length c = search needs
 
 returns : tie.Need-returns
 returns c =
-    let a = c .before .before .before .before .before .before .before .before .before .before .before .before .before .before .before .before .before .before .before .before .args in
-    let n = frames-of (length (now (a .sheet))) (c .before .before .before .before .before .before .before .before .before .before .before .before .before .of .ensures) (c .before .before .before .before .before .before .before .before .before .before .before .frames .ensures) in
-    linked-net (c .before .before .link .ensures) (c .before .before .before .before .before .before .nest .ensures _ (loaded-net (c .before .before .before .before .before .before .before .before .before .before .before .before .before .before .before .before .before .before .before .before .pre .0) (c .before .before .before .before .before .before .before .before .before .before .before .before .before .before .before .before .before .before .before .before .pre .1) (c .before .before .before .before .before .before .before .before .before .before .before .before .before .before .before .before .load-frames .ensures) n (c .before .before .before .before .before .before .before .before .before .before .head .ensures)))
+    let a = c .before .before .before .before .before .before .before .before .before .before .before .before .before .before .before .before .args in
+    let n = frames-of (length (now (a .sheet))) (c .before .before .before .before .before .before .before .before .before .of .ensures) (c .before .before .before .before .before .before .before .frames .ensures) in
+    c .before .before .nest .ensures (sheetOf (formOf (a .wide)) (now (a .sheet)))
+    (loaded-net (c .before .before .before .before .before .before .before .before .before .before .before .before .before .before .before .before .pre .0) (c .before .before .before .before .before .before .before .before .before .before .before .before .before .before .before .before .pre .1) (c .before .before .before .before .before .before .before .before .before .before .before .before .load-frames .ensures) n (c .before .before .before .before .before .before .head .ensures))
 
 pub load-spec : {M : Type 1} → statement M
 load-spec =
@@ -54,6 +47,5 @@ load-spec =
     frames-requires
     head-requires
     nest-requires
-    link-requires
     same-length
     returns)

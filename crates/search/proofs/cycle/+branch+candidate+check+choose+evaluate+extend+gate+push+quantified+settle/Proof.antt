@@ -8,10 +8,10 @@ use borrow.Author.Needs.{needs}
 use borrow.Fn.Kinds.{In}
 use borrow.Fn.PlainCycle.{Measures, is, falls, and}
 use Rattle.words.specs.Mask.{top-bit, top-less}
-use Rattle.records.specs.Both.{tables-same, tables-then}
 use Rattle.net.specs.Layout.{decides-some, reads-low, flips-below, joins-left, joins-right, binds-below}
 use Rattle.judge.specs.JudgeLaws.{judged-at, judging-none, judging-then}
 use Rattle.judge.specs.CellLaws.{trail-none}
+use Rattle.proxies.specs.Growing.{growing-same, growing-then}
 use Rattle.proxies.specs.KeptLaws.{recorded-told}
 use Rattle.search.specs.SearchLaws.{checked-flip, checked-left, checked-right, lent-after, perNode, body-less}
 use Rattle.search.specs.SearchLaws.{told-met, told-missed, told-known, told-leaf, told-flip, told-left, told-right, told-both, told-shown}
@@ -409,7 +409,7 @@ branch-returns-3 t c =
         rw (c .if3 .taken) (second-met (highest° .ensures .0) (highest° .ensures .1) (c .before .before .before .before .before .before .before .before .before .before .before .before .before .before .before .before .before .before .before .before .before .before .before .before .before .before .before .before .before .before .before .before .before .before .before .one .ensures) (c .before .before .before .before .before .before .before .before .before .before .before .before .before .before .before .before .before .before .before .before .before .before .before .before .before .before .before .before .before .before .before .before .before .before .without .ensures) (c .before .before .before .before .before .before .before .before .before .before .before .before .before .before .before .before .before .before .before .before .before .before .before .before .before .before .before .before .before .before .before .before .before .before .before .before .before .before .before .before .before .before .pre .1 .1 .0 .free) _ (c .before .before .before .before .before .before .before .before .before .before .before .before .before .before .before .before .before .before .before .before .before .before .before .before .before .before .before .before .before .before .before .before .fix .ensures) (rw (c .before .before .before .before .before .before .before .before .before .before .before .before .before .before .before .before .before .before .if1 .left) at (extend° .ensures .0 .0)) (c .before .before .before .before .before .before .before .before .before .before .before .before .before .before .before .fix2 .ensures) (rw (c .if3 .taken) at (extend2° .ensures .0 .0))),
         extend2° .ensures .0 .1 ∙ extend° .ensures .0 .1,
       ),
-      tables-then (extend° .ensures .1) (extend2° .ensures .1),
+      growing-then (extend° .ensures .1) (extend2° .ensures .1),
     )
 
 branch-has-requires-2 : (t : ℕ) → branch-lts.Need-has-requires-2 (branch-claims t) (branch-at t) branch.Post
@@ -437,7 +437,7 @@ branch-returns-4 t c =
         rw (if3° .left) (half-lost (highest° .ensures .0) (highest° .ensures .1) (c .before .before .before .before .before .before .before .before .before .before .before .before .before .before .before .before .before .before .before .before .before .before .before .before .before .before .before .before .before .before .before .before .before .before .before .before .before .one .ensures) (c .before .before .before .before .before .before .before .before .before .before .before .before .before .before .before .before .before .before .before .before .before .before .before .before .before .before .before .before .before .before .before .before .before .before .before .before .without .ensures) (c .before .before .before .before .before .before .before .before .before .before .before .before .before .before .before .before .before .before .before .before .before .before .before .before .before .before .before .before .before .before .before .before .before .before .before .before .before .before .before .before .before .before .before .before .pre .1 .1 .0 .free) _ (c .before .before .before .before .before .before .before .before .before .before .before .before .before .before .before .before .before .fix2 .ensures) (rw (if3° .left) at (extend2° .ensures .0 .0)) (sym (c .before .has2 .ensures) ∙ not-true _ (c .if4 .taken))),
         extend2° .ensures .0 .1 ∙ extend° .ensures .0 .1,
       ),
-      tables-then (extend° .ensures .1) (extend2° .ensures .1),
+      growing-then (extend° .ensures .1) (extend2° .ensures .1),
     )
 
 branch-without-requires-2 : (t : ℕ) → branch-lts.Need-without-requires-2 (branch-claims t) (branch-at t) branch.Post
@@ -464,7 +464,7 @@ branch-returns-5 t c =
         both-lost (highest° .ensures .0) (highest° .ensures .1) (c .before .before .before .before .before .before .before .before .before .before .before .before .before .before .before .before .before .before .before .before .before .before .before .before .before .before .before .before .before .before .before .before .before .before .before .before .before .before .before .before .before .one .ensures) (c .before .before .before .before .before .before .before .before .before .before .before .before .before .before .before .before .before .before .before .before .before .before .before .before .before .before .before .before .before .before .before .before .before .before .before .before .before .before .before .before .without .ensures) (c .before .before .before .before .before .before .before .before .before .before .before .before .before .before .before .before .before .before .before .before .before .before .before .before .before .before .before .before .before .before .before .before .before .before .before .before .before .before .before .before .before .before .before .before .before .before .before .before .pre .1 .1 .0 .free) _ (c .before .before .before .before .before .before .before .before .before .before .before .before .before .before .before .before .before .before .before .before .before .before .before .before .before .before .before .before .before .before .before .before .before .before .before .before .before .before .fix .ensures) (rw (c .before .before .before .before .before .before .before .before .before .before .before .before .before .before .before .before .before .before .before .before .before .before .before .before .if1 .left) at (extend° .ensures .0 .0)) (c .before .before .before .before .before .before .before .before .before .before .before .before .before .before .before .before .before .before .before .before .before .fix2 .ensures) (rw (c .before .before .before .before .before .before .if3 .left) at (extend2° .ensures .0 .0)) (c .without2 .ensures),
         extend2° .ensures .0 .1 ∙ extend° .ensures .0 .1,
       ),
-      tables-then (extend° .ensures .1) (extend2° .ensures .1),
+      growing-then (extend° .ensures .1) (extend2° .ensures .1),
     )
 
 -- ---- candidate
@@ -539,7 +539,7 @@ check-returns t c =
         told-known (omega (arith, c .if1 .taken)) (judged-at (pre° .1 .0 .1 .judged) (known-at° .ensures .0) (known-at° .ensures .1)),
         judging-none (pre° .1 .0 .1 .judged),
       ),
-      tables-same (pre° .1 .1 .tables),
+      growing-same,
     )
 
 check-evaluate-requires : (t : ℕ) → check-lts.Need-evaluate-requires (check-claims t) (check-at t) check.Post
@@ -672,7 +672,7 @@ evaluate-returns t c =
         told-leaf (pre° .1 .0 .1) (c .before .before .node-at .ensures .0) (c .before .if1 .taken) (c .leaf .ensures),
         judging-none (pre° .1 .0 .1 .judged),
       ),
-      tables-same (pre° .1 .1 .tables),
+      growing-same,
     )
 
 evaluate-check-requires : (t : ℕ) → evaluate-lts.Need-check-requires (evaluate-claims t) (evaluate-at t) evaluate.Post
@@ -875,7 +875,7 @@ gate-returns-2 t c =
         told-right (pre° .1 .1 .0 .1) (pre° .1 .0 .0) (pre° .1 .0 .1) (pre° .1 .0 .2) refl (check2° .ensures .0 .0) (c .if2 .taken),
         judging-then (check° .ensures .0 .1) (check2° .ensures .0 .1),
       ),
-      tables-then (check° .ensures .1) (check2° .ensures .1),
+      growing-then (check° .ensures .1) (check2° .ensures .1),
     )
 
 gate-same-length-9 : (t : ℕ) → gate-lts.Need-same-length-9 (gate-claims t) (gate-at t) gate.Post
@@ -899,7 +899,7 @@ gate-returns-3 t c =
         told-both (pre° .1 .1 .0 .1) (pre° .1 .0 .0) (pre° .1 .0 .1) (pre° .1 .0 .2) refl (check° .ensures .0 .0) (c .before .before .before .before .before .before .before .before .before .before .before .before .before .before .before .before .before .before .before .if1 .left) (check2° .ensures .0 .0) (c .before .before .before .if2 .left),
         judging-then (check° .ensures .0 .1) (check2° .ensures .0 .1),
       ),
-      tables-then (check° .ensures .1) (check2° .ensures .1),
+      growing-then (check° .ensures .1) (check2° .ensures .1),
     )
 
 -- ---- push
@@ -923,7 +923,7 @@ push-same-length-2 t c = c .before .before .wants2 .given ∙ c .before .before 
 push-returns : (t : ℕ) → push-lts.Need-returns (push-claims t) (push-at t) push.Post
 push-returns t c =
     let solve° = c .before .before .before .solve in
-    ((solve° .ensures .0 (c .if2 .taken), refl), tables-same (c .before .before .before .before .before .before .before .before .before .before .before .before .before .before .before .before .before .before .before .pre .1 .1 .1 .tables))
+    ((solve° .ensures .0 (c .if2 .taken), refl), growing-same)
 
 push-branch-requires : (t : ℕ) → push-lts.Need-branch-requires (push-claims t) (push-at t) push.Post
 push-branch-requires t c κs =
@@ -933,7 +933,7 @@ push-branch-requires t c κs =
         pre° .1 .0,
         (
           pre° .1 .1 .0,
-          lent-after (pre° .1 .1 .1) (tables-same (pre° .1 .1 .1 .tables)) (c .before .before .before .before .before .before .before .solve .ensures .1 ∙ c .before .before .before .before .before .before .before .before .before .before .before .before .before .before .force .ensures .1),
+          lent-after (pre° .1 .1 .1) growing-same (c .before .before .before .before .before .before .before .solve .ensures .1 ∙ c .before .before .before .before .before .before .before .before .before .before .before .before .before .before .force .ensures .1),
         ),
       ),
     )
@@ -971,7 +971,7 @@ push-extend-requires t c κs =
       omega (arith, pre° .0, forced-less (force° .ensures .0) (pre° .1 .1 .0 .free) (without° .ensures) refl refl (omega (arith, c .before .before .before .before .before .before .before .before .before .if1 .left))),
       (
         posed-forced (pre° .1 .1 .0) (force° .ensures .0) (without° .ensures) refl refl,
-        lent-after (pre° .1 .1 .1) (tables-same (pre° .1 .1 .1 .tables)) (force° .ensures .1),
+        lent-after (pre° .1 .1 .1) growing-same (force° .ensures .1),
       ),
     )
 
@@ -1044,8 +1044,8 @@ quantified-same-length-2 t c = refl
 quantified-returns : (t : ℕ) → quantified-lts.Need-returns (quantified-claims t) (quantified-at t) quantified.Post
 quantified-returns t c =
     let pre° = c .before .before .before .before .before .before .before .before .before .before .pre in
-    let both = recorded-told (pre° .1 .1 .0 .1 .ground) (pre° .1 .1 .1 .tables) (pre° .1 .1 .0 .1 .covers) (omega (arith, c .if1 .taken)) (c .before .before .recorded .ensures) in
-    ((both .0, judging-none (pre° .1 .1 .0 .1 .judged)), (tables-same (pre° .1 .1 .1 .tables), λ l. both .1))
+    let both = recorded-told (pre° .1 .1 .0 .1 .ground) (pre° .1 .1 .1 .faithful) (pre° .1 .1 .1 .tables) (pre° .1 .1 .0 .1 .covers) (omega (arith, c .if1 .taken)) (c .before .before .recorded .ensures) in
+    ((both .0, judging-none (pre° .1 .1 .0 .1 .judged)), (growing-same, λ l q. both .1))
 
 quantified-choose-requires : (t : ℕ) → quantified-lts.Need-choose-requires (quantified-claims t) (quantified-at t) quantified.Post
 quantified-choose-requires t c κs =
@@ -1057,9 +1057,10 @@ quantified-body-shows-requires t c κs = search needs
 
 quantified-note-requires : (t : ℕ) → quantified-lts.Need-note-requires (quantified-claims t) (quantified-at t) quantified.Post
 quantified-note-requires t c κs =
-    let tables° = c .before .before .before .before .before .before .before .before .before .before .before .before .choose .ensures .1 .tables in
+    let pre° = c .before .before .before .before .before .before .before .before .before .before .before .before .before .before .before .before .before .before .before .before .before .before .before .before .before .before .before .pre in
+    let tables° = c .before .before .before .before .before .before .before .before .before .before .before .before .choose .ensures .1 .true-still _ (pre° .1 .1 .1 .faithful) (pre° .1 .1 .1 .tables) in
     let body-shows° = c .before .before .before .body-shows in
-    (c .before .before .before .before .before .before .before .before .before .before .before .before .before .before .before .before .before .before .before .before .before .before .before .before .before .before .before .pre .1 .1 .0 .1 .ground, tables° .under .fits, tables° .over .fits, body-shows° .ensures .some, body-shows° .ensures .low)
+    (pre° .1 .1 .0 .1 .ground, tables° .under .fits, tables° .over .fits, body-shows° .ensures .some, body-shows° .ensures .low)
 
 quantified-same-length-3 : (t : ℕ) → quantified-lts.Need-same-length-3 (quantified-claims t) (quantified-at t) quantified.Post
 quantified-same-length-3 t c = c .before .before .before .before .before .before .before .before .before .before .before .before .before .before .before .before .cells .given
@@ -1078,9 +1079,9 @@ quantified-returns-2 t c =
     let pre° = c .before .before .before .before .before .before .before .before .before .before .before .before .before .before .before .before .before .before .before .before .before .before .before .before .before .before .before .before .before .before .before .before .pre in
     let choose° = c .before .before .before .before .before .before .before .before .before .before .before .before .before .before .before .before .before .choose in
     let told = told-shown (pre° .1 .1 .0 .1) (pre° .1 .0 .0) (pre° .1 .0 .1) _ _ (choose° .ensures .0 .0) (c .before .before .before .before .before .before .before .before .body-shows .ensures) in
-    let noted = c .before .before .before .before .note .ensures (choose° .ensures .1 .tables) (told .forced .explains) in (
+    let noted = c .before .before .before .before .note .ensures (told .forced .explains) in (
       (told, rw (choose° .ensures .0 .1) (judging-none (pre° .1 .1 .0 .1 .judged))),
-      (tables-then (choose° .ensures .1) (noted .0), noted .1),
+      (growing-then (choose° .ensures .1) (noted .0), noted .1),
     )
 
 -- ---- settle
@@ -1101,7 +1102,7 @@ settle-returns t c =
         known-met (pre° .1 .0) (omega (arith, c .before .before .if1 .taken)) (judged-at (pre° .1 .0 .judged) (known-at° .ensures .0) (known-at° .ensures .1)) (c .if2 .taken),
         refl,
       ),
-      tables-same (pre° .1 .1 .tables),
+      growing-same,
     )
 
 settle-same-length-2 : (t : ℕ) → settle-lts.Need-same-length-2 (settle-claims t) (settle-at t) settle.Post
@@ -1115,7 +1116,7 @@ settle-returns-2 t c =
         known-lost (pre° .1 .0) (omega (arith, c .before .before .if1 .taken)) (judged-at (pre° .1 .0 .judged) (known-at° .ensures .0) (known-at° .ensures .1)) (c .if2 .left),
         refl,
       ),
-      tables-same (pre° .1 .1 .tables),
+      growing-same,
     )
 
 settle-candidate-requires : (t : ℕ) → settle-lts.Need-candidate-requires (settle-claims t) (settle-at t) settle.Post

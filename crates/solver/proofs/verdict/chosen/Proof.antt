@@ -1,9 +1,11 @@
 -- `solver::verdict::chosen` meets its contract: the search of the last frame over the free variables that are not entered. Assumes nothing.
 use Rattle.solver.specs.Aim.{plain-asking}
-use Rattle.solver.specs.Ask.{answered-yes, answered-no}
+use Rattle.solver.specs.Ask.{ready-grown, answered-yes, answered-no}
+use Rattle.net.specs.Sheet.{net-form}
 use Rattle.search.specs.SearchLaws.{tables-fit}
 use Rattle.proxies.specs.KeptLaws.{low-fits}
 use native.Mathlib.Omega.{arith}
+use mathlib.Core.Path.{_∙_}
 use borrow.Author.Needs.{needs}
 use Rattle.solver.proofs.verdict.chosen.Statement.{statement}
 use Rattle.solver.proofs.verdict.chosen.Tie as tie
@@ -42,7 +44,13 @@ low-requires-3 : tie.Need-low-requires-3
 low-requires-3 c κs = search needs
 
 ensure-requires : tie.Need-ensure-requires
-ensure-requires c κs = (tables-fit ((c .before .before .before .before .before .before .before .before .before .before .before .before .before .before .before .before .before .before .before .before .before .before .form) .ensures) ((c .before .before .before .before .before .before .before .before .before .before .before .before .solve) .ensures .1 .0 .tables) .0, low-fits ((c .before .before .before .before .before .before .before .before .before .before .before .before .before .before .before .before .before .before .before .before .before .before .form) .result) _ ((c .before .before .low) .ensures), low-fits ((c .before .before .before .before .before .before .before .before .before .before .before .before .before .before .before .before .before .before .before .before .before .before .form) .result) _ ((c .low3) .ensures))
+ensure-requires c κs =
+    let R = c .before .before .before .before .before .before .before .before .before .before .before .before .before .before .before .before .before .before .before .before .before .before .before .before .before .before .before .pre .1 in
+    let form° = c .before .before .before .before .before .before .before .before .before .before .before .before .before .before .before .before .before .before .before .before .before .before .form in (
+      tables-fit (form° .ensures ∙ net-form (R .net-of)) (ready-grown R (c .before .before .before .before .before .before .before .before .before .before .before .before .solve .ensures .1 .0) .tables) .0,
+      low-fits (form° .result) _ (c .before .before .low .ensures),
+      low-fits (form° .result) _ (c .low3 .ensures),
+    )
 
 same-length : tie.Need-same-length
 same-length c = search needs
@@ -69,7 +77,13 @@ low-requires-6 : tie.Need-low-requires-6
 low-requires-6 c κs = search needs
 
 ensure-requires-2 : tie.Need-ensure-requires-2
-ensure-requires-2 c κs = (tables-fit ((c .before .before .before .before .before .before .before .before .before .before .before .before .before .before .before .before .before .before .before .before .before .before .form) .ensures) ((c .before .before .before .before .before .before .before .before .before .before .before .before .solve) .ensures .1 .0 .tables) .1, low-fits ((c .before .before .before .before .before .before .before .before .before .before .before .before .before .before .before .before .before .before .before .before .before .before .form) .result) _ ((c .before .before .low4) .ensures), low-fits ((c .before .before .before .before .before .before .before .before .before .before .before .before .before .before .before .before .before .before .before .before .before .before .form) .result) _ ((c .low6) .ensures))
+ensure-requires-2 c κs =
+    let R = c .before .before .before .before .before .before .before .before .before .before .before .before .before .before .before .before .before .before .before .before .before .before .before .before .before .before .before .pre .1 in
+    let form° = c .before .before .before .before .before .before .before .before .before .before .before .before .before .before .before .before .before .before .before .before .before .before .form in (
+      tables-fit (form° .ensures ∙ net-form (R .net-of)) (ready-grown R (c .before .before .before .before .before .before .before .before .before .before .before .before .solve .ensures .1 .0) .tables) .1,
+      low-fits (form° .result) _ (c .before .before .low4 .ensures),
+      low-fits (form° .result) _ (c .low6 .ensures),
+    )
 
 same-length-4 : tie.Need-same-length-4
 same-length-4 c = search needs

@@ -1,0 +1,13 @@
+pub mod Absorb
+pub mod Follow
+pub mod AbsorbLaws
+pub mod Cone
+pub mod Lanes
+pub mod Tables
+pub mod ConeLaws
+pub mod Marks
+pub mod MarksLaws
+pub mod Spread
+pub mod SpreadLaws
+pub mod Sheet
+pub mod SheetLaws
