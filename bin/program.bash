@@ -10,7 +10,7 @@ build() {
   local begun log notice
   begun=$(date --iso-8601=ns)
   log=$(mktemp)
-  (sleep 0.5 && echo "$command: proving and building the program; from nothing this takes two to three minutes") >&2 &
+  (sleep 0.5 && echo "$command: proving and building the program; from nothing this takes some ten minutes") >&2 &
   notice=$!
   if ! (cd "$top" && rt check "$1" 2>&1) </dev/null | tee "$log" | sed -un "s|^rt: \([a-z_]* proved ([0-9]* s)\)\$|$command: \1|p" >&2; then
     cat "$log" >&2

@@ -90,18 +90,21 @@ pub fn choose(
     out
 }
 
-// The last variable is tried without a look for what it is forced to, and with it most of what is unknown comes to be known. Only the time depends on this.
-fn few(loose: u64) -> bool {
-    u64::count_ones(loose) < 2
+// At most one variable. The last loose one is tried without a look for what it is forced to, and with it most of what is unknown comes to be known. Only the time
+// depends on this.
+fn few(variables: u64) -> bool {
+    u64::count_ones(variables) < 2
 }
 
-// The variables that judging begins with: those that were fixed, or all where few are left loose.
+// The variables that judging begins with: those that were fixed, or all where several were and few are left loose.
 fn begin(fresh: u64, loose: u64) -> u64 {
     if fresh == 0 {
         return 0;
     }
     if few(loose) {
-        return forward::ALL;
+        if !few(fresh) {
+            return forward::ALL;
+        }
     }
     fresh
 }
