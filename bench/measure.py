@@ -1,6 +1,7 @@
 """What the scripts beside it share: building, and the CPU time of one question to us or to another solver."""
 
 import contextlib
+import math
 import os
 import pathlib
 import re
@@ -151,6 +152,22 @@ def count_ours(program, sheet, question, limit=5 * LIMIT):
     if ended.stopped:
         return Answer(None, limit, limit)
     fail(f"{sheet}: our call under valgrind ended with status {ended.status}: {ended.printed}")
+
+
+def ratio(programs, sheet, question, asked, calls):
+    """The first program's time over the second's, each the quickest of some calls in turn; None where one did not end in time."""
+    answers = []
+    for _ in range(calls):
+        answers += [asked(program, sheet, question) for program in programs]
+        if not all(answer.verdict for answer in answers):
+            return None
+    if len({(answer.verdict, answer.word) for answer in answers}) > 1:
+        fail(f"{sheet}: two answers")
+    return min(answer.seconds for answer in answers[::2]) / min(answer.seconds for answer in answers[1::2])
+
+
+def mean(ratios):
+    return math.exp(math.fsum(map(math.log, ratios)) / len(ratios))
 
 
 def peer_verdict(ended):
