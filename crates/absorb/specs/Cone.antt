@@ -20,19 +20,19 @@ Filled T W i = (k : ℕ) → k < i → get_or W k 0 ≡ T (at W) k
 -- ---- free variables
 
 -- the word of a node's free variables, from those of the nodes that it names
-unfoldable pub freeWord : (ℕ → ℕ) → Node → ℕ
-freeWord F (Fixed v) = 0
-freeWord F (Reads x) = 2 ^ x
-freeWord F (Flips a) = F a
-freeWord F (Joins d a b) = bit_or (F a) (F b)
-freeWord F (Binds d m a) = without (F a) m
+unfoldable pub free_word : (ℕ → ℕ) → Node → ℕ
+free_word F (Fixed v) = 0
+free_word F (Reads x) = 2 ^ x
+free_word F (Flips a) = F a
+free_word F (Joins d a b) = bit_or (F a) (F b)
+free_word F (Binds d m a) = without (F a) m
 
-unfoldable pub freeRule : Net → Rule
-freeRule N W k = freeWord W (N k)
+unfoldable pub free_rule : Net → Rule
+free_rule N W k = free_word W (N k)
 
 -- the first i words are the free variables
 pub record FreeTable (net words : List ℕ) (i : ℕ) : Type 0 where
-  pub filled : Filled (freeRule (packed net)) words i
+  pub filled : Filled (free_rule (packed net)) words i
 
 -- ---- lanes: slot 0 is off the cone, 1 to 5 is a side node, 6 is a node of the cone that is computed
 
@@ -48,15 +48,15 @@ pattern (suc (suc (suc (suc (suc i))))) = 0xFFFF_FFFF_0000_0000
 abbrev pub ones : ℕ
 ones = 18446744073709551615
 
-unfoldable pub gateWord : (ℕ → ℕ) → Node → ℕ
-gateWord W (Fixed v) = cond v ones 0
-gateWord W (Reads x) = pattern 0
-gateWord W (Flips a) = ones - W a
-gateWord W (Joins d a b) = cond d (bit_or (W a) (W b)) (bit_and (W a) (W b))
-gateWord W (Binds d m a) = 0
+unfoldable pub gate_word : (ℕ → ℕ) → Node → ℕ
+gate_word W (Fixed v) = cond v ones 0
+gate_word W (Reads x) = pattern 0
+gate_word W (Flips a) = ones - W a
+gate_word W (Joins d a b) = cond d (bit_or (W a) (W b)) (bit_and (W a) (W b))
+gate_word W (Binds d m a) = 0
 
-unfoldable pub laneRule : Net → (ℕ → ℕ) → Rule
-laneRule N slots W k = cond (ltb (slots k) 6) (pattern (slots k)) (gateWord W (N k))
+unfoldable pub lane_rule : Net → (ℕ → ℕ) → Rule
+lane_rule N slots W k = cond (ltb (slots k) 6) (pattern (slots k)) (gate_word W (N k))
 
 -- a node of the cone that may be computed: a constant, y, a gate of nodes of the cone
 abbrev pub Gate : ℕ → (ℕ → ℕ) → Node → Type 0
@@ -75,8 +75,8 @@ abbrev pub Cone : Net → ℕ → (ℕ → ℕ) → (ℕ → ℕ) → ℕ → Ty
 Cone N y slots sides i = (k : ℕ) → k < i → 0 < slots k → Placed N y slots sides k
 
 -- node k by its numbers, in a slot
-unfoldable pub laneWord : List ℕ → ℕ → ℕ → ℕ → ℕ → ℕ → ℕ
-laneWord words slot op left right mask = cond (ltb slot 6) (pattern slot) (gateWord (at words) (node_of op left right mask))
+unfoldable pub lane_word : List ℕ → ℕ → ℕ → ℕ → ℕ → ℕ → ℕ
+lane_word words slot op left right mask = cond (ltb slot 6) (pattern slot) (gate_word (at words) (node_of op left right mask))
 
 pub record PlacedAt (y : ℕ) (slots sides : List ℕ) (op left right mask k : ℕ) : Type 0 where
   pub sided : get_or slots k 0 < 6 → 0 < get_or slots k 0 → get_or sides (get_or slots k 0 - 1) 0 ≡ k
@@ -84,7 +84,7 @@ pub record PlacedAt (y : ℕ) (slots sides : List ℕ) (op left right mask k : �
 
 -- the first i words are the lanes, and the nodes of the cone among them have their places
 pub record LaneTable (net : List ℕ) (y : ℕ) (slots sides words : List ℕ) (i : ℕ) : Type 0 where
-  pub filled : Filled (laneRule (packed net) (at slots)) words i
+  pub filled : Filled (lane_rule (packed net) (at slots)) words i
   pub cone : Cone (packed net) y (at slots) (at sides) i
 
 -- ---- what the tests need

@@ -6,11 +6,11 @@ use Rattle.std.proofs.Math.Bool.{not}
 use Rattle.std.specs.Bool.{beq}
 use Rattle.std.specs.Int.Bits.{bit_and, bit_xor}
 use Rattle.words.specs.Logic.{by_bool, clash, tests, and_both}
-use Rattle.words.specs.Word.{bit, xorb, bit-and, bit-xor, bit-zero, bit-suc, bit-shr}
-use Rattle.words.specs.Mask.{mask_of, maskOf-lt, bit-maskOf}
+use Rattle.words.specs.Word.{bit, xorb, bit-and, bit-xor, bit-zero, bit-suc, bit_shr}
+use Rattle.words.specs.Mask.{mask_of, mask_of-lt, bit-mask_of}
 use Rattle.formula.specs.Assignment.{Assignment, assign, join, assign-same, assign_other}
 use Rattle.formula.specs.Formula.{Formula, truth, coincide}
-use Rattle.net.specs.Net.{Fixed, Reads, Flips, Joins, Net, meaning, value, frees, Ordered, fit_at, at-fixed, at_reads, at-flips, at-joins, upward}
+use Rattle.net.specs.Net.{Fixed, Reads, Flips, Joins, Net, meaning, value, frees, Ordered, fit_at, at_fixed, at_reads, at_flips, at-joins, upward}
 use Rattle.absorb.specs.Absorb.{Turns}
 use Rattle.absorb.specs.Cone.{pattern}
 
@@ -36,8 +36,8 @@ module _ (N : Net) (o : Ordered N) (y n : ℕ) (sides : ℕ → ℕ) (W : ℕ �
   unfolding truth
   lane-step σ j f k (variable e w) h = ap (λ (g : Formula). truth g σ) (at_reads o e) ∙ f.at-variable ∙ sym (w j f.below)
   lane-step σ j f k (side i l e w) h = rw e (f.at_side i l) ∙ sym (w j f.below)
-  lane-step σ j f k (constant v e w) h = at-fixed o e σ ∙ sym (w j f.below)
-  lane-step σ j f k (opposite a e c w) h = ap (λ (g : Formula). truth g σ) (at-flips o e) ∙ ap not (h a (fit_at o e) c) ∙ sym (w j f.below)
+  lane-step σ j f k (constant v e w) h = at_fixed o e σ ∙ sym (w j f.below)
+  lane-step σ j f k (opposite a e c w) h = ap (λ (g : Formula). truth g σ) (at_flips o e) ∙ ap not (h a (fit_at o e) c) ∙ sym (w j f.below)
   lane-step σ j f k (joined d a b e c c' w) h =
       ap (λ (g : Formula). truth g σ) (at-joins o e) ∙ ap₂ (join d) (h a (fit_at o e).0 c) (h b (fit_at o e).1 c') ∙ sym (w j f.below)
 
@@ -47,20 +47,20 @@ module _ (N : Net) (o : Ordered N) (y n : ℕ) (sides : ℕ → ℕ) (W : ℕ �
 
 -- ---- each assignment has a lane
 
-unfoldable pub laneBits : Net → ℕ → (ℕ → ℕ) → Assignment → ℕ → Bool
-laneBits N y sides σ zero = σ y
-laneBits N y sides σ (suc i) = value N (sides i) σ
+unfoldable pub lane_bits : Net → ℕ → (ℕ → ℕ) → Assignment → ℕ → Bool
+lane_bits N y sides σ zero = σ y
+lane_bits N y sides σ (suc i) = value N (sides i) σ
 
 unfoldable pub lane_of : Net → ℕ → ℕ → (ℕ → ℕ) → Assignment → ℕ
-lane_of N y n sides σ = mask_of (suc n) (laneBits N y sides σ)
+lane_of N y n sides σ = mask_of (suc n) (lane_bits N y sides σ)
 
 pub lane-fits : (N : Net) (y n : ℕ) (sides : ℕ → ℕ) (σ : Assignment) → Fits N y n sides σ (lane_of N y n sides σ)
-unfolding lane_of laneBits
+unfolding lane_of lane_bits
 lane-fits N y n sides σ =
     record {
-      below = maskOf-lt (suc n) (laneBits N y sides σ);
-      at-variable = sym (bit-maskOf (suc n) (laneBits N y sides σ) zero ∙ rw (lt-ltb zero (suc n) (omega arith)));
-      at_side = λ i l. sym (bit-maskOf (suc n) (laneBits N y sides σ) (suc i) ∙ rw (lt-ltb (suc i) (suc n) (omega arith)));
+      below = mask_of-lt (suc n) (lane_bits N y sides σ);
+      at-variable = sym (bit-mask_of (suc n) (lane_bits N y sides σ) zero ∙ rw (lt-ltb zero (suc n) (omega arith)));
+      at_side = λ i l. sym (bit-mask_of (suc n) (lane_bits N y sides σ) (suc i) ∙ rw (lt-ltb (suc i) (suc n) (omega arith)));
     }
 
 -- ---- the test: the word of g at lane j + 1 is the other of that at j, for every even j
@@ -74,8 +74,8 @@ even-digit j e = go (j % 2) (omega arith) (sym (bit-zero j) ∙ e)
 even-half : (j : ℕ) → bit j 0 ≡ false → suc j / 2 ≡ j / 2
 even-half j e = omega (arith, even-digit j e)
 
-odd-next : (j : ℕ) → bit j 0 ≡ false → bit (suc j) 0 ≡ true
-odd-next j e = bit-zero (suc j) ∙ eq-eqb (suc j % 2) 1 (omega (arith, even-digit j e))
+odd_next : (j : ℕ) → bit j 0 ≡ false → bit (suc j) 0 ≡ true
+odd_next j e = bit-zero (suc j) ∙ eq-eqb (suc j % 2) 1 (omega (arith, even-digit j e))
 
 even-below : (n j : ℕ) → bit j 0 ≡ false → j < 2 ^ suc n → suc j < 2 ^ suc n
 even-below n j e l = omega (arith, even-digit j e, pow-suc 2 n)
@@ -89,7 +89,7 @@ module _ (N : Net) (o : Ordered N) (y n : ℕ) (sides : ℕ → ℕ) (W : ℕ �
       let e : bit j 0 ≡ false = sym f.at-variable ∙ assign-same σ y false in
       record {
         below = even-below n j e f.below;
-        at-variable = assign-same σ y true ∙ sym (odd-next j e);
+        at-variable = assign-same σ y true ∙ sym (odd_next j e);
         at_side = λ i l.
             coincide (meaning N (sides i)) (assign σ y true) (assign σ y false)
             (λ k t. let h : eqb k y ≡ false = by_bool (eqb k y) (λ q. clash (frees N (sides i) k) t (rw (eqb-true k y q) (unread i l))) (λ q. q) in
@@ -97,8 +97,8 @@ module _ (N : Net) (o : Ordered N) (y n : ℕ) (sides : ℕ → ℕ) (W : ℕ �
             ∙ f.at_side i l ∙ bit-suc j i ∙ ap (λ (x : ℕ). bit x i) (sym (even-half j e)) ∙ sym (bit-suc (suc j) i);
       }
 
-  pub lanes-turn : (g : ℕ) → cone g ≡ true → ((j : ℕ) → j < 2 ^ suc n → bit j 0 ≡ false → bit (W g) (suc j) ≡ not (bit (W g) j)) → Turns y (value N g)
-  lanes-turn g c test σ =
+  pub lanes_turn : (g : ℕ) → cone g ≡ true → ((j : ℕ) → j < 2 ^ suc n → bit j 0 ≡ false → bit (W g) (suc j) ≡ not (bit (W g) j)) → Turns y (value N g)
+  lanes_turn g c test σ =
       let j = lane_of N y n sides (assign σ y false) in
       let f = lane-fits N y n sides (assign σ y false) in
       lane-value N o y n sides W cone lanes (assign σ y true) (suc j) (next_fits σ j f) g c
@@ -144,11 +144,11 @@ unfolding bit every
 bit-evens j l = beq_same _ _ (every-below 64 (λ k. beq (bit evens k) (not (bit k 0))) refl j l)
 
 -- `(w ^ (w >> 1)) & 0x5555555555555555 == 0x5555555555555555`
-pub turn-test : (w : ℕ) → bit_and (bit_xor w (w / 2 ^ 1)) evens ≡ evens → (j : ℕ) → j < 2 ^ 6 → bit j 0 ≡ false → bit w (suc j) ≡ not (bit w j)
-turn-test w e j l h =
+pub turn_test : (w : ℕ) → bit_and (bit_xor w (w / 2 ^ 1)) evens ≡ evens → (j : ℕ) → j < 2 ^ 6 → bit j 0 ≡ false → bit w (suc j) ≡ not (bit w j)
+turn_test w e j l h =
     let t : bit evens j ≡ true = bit-evens j l ∙ ap not h in
     go (bit w j) (bit w (suc j))
-    (ap (λ (x : Bool). xorb (bit w j) x) (ap (bit w) (sym (one-add j)) ∙ sym (bit-shr w 1 j))
+    (ap (λ (x : Bool). xorb (bit w j) x) (ap (bit w) (sym (one-add j)) ∙ sym (bit_shr w 1 j))
     ∙ sym (bit-xor w (w / 2 ^ 1) j)
     ∙ (and_both (bit (bit_xor w (w / 2 ^ 1)) j) (bit evens j) (sym (bit-and (bit_xor w (w / 2 ^ 1)) evens j) ∙ ap (λ (x : ℕ). bit x j) e ∙ t)).0)
   where

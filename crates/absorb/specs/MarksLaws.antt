@@ -4,8 +4,8 @@ use Rattle.std.proofs.Common.{arith, sym, ◌∙◌, subst, get_or-set_other, ge
 use Rattle.std.specs.Int.Bits.{bit_and}
 use Rattle.words.specs.Logic.{by_bool, clash, tests, and_both}
 use Rattle.words.specs.Word.{bit}
-use Rattle.words.specs.Mask.{Apart, bits-apart}
-use Rattle.net.specs.Net.{Node, Fixed, Reads, Flips, Joins, Binds, Net, node_of, node-fixed, node-reads, node-flips, node-joins, node-binds, frees, Fit, Ordered}
+use Rattle.words.specs.Mask.{Apart, bits_apart}
+use Rattle.net.specs.Net.{Node, Fixed, Reads, Flips, Joins, Binds, Net, node_of, node_fixed, node_reads, node_flips, node_joins, node_binds, frees, Fit, Ordered}
 use Rattle.absorb.specs.Absorb.{Names, Spares, Inside, Outside}
 use Rattle.absorb.specs.Marks.{unmarked, Clean, Marking}
 
@@ -24,20 +24,20 @@ module _ (op left right mask : ℕ) (r : ℕ → Bool) where
   names-is : {u : Node} → node_of op left right mask ≡ u → Names r u → Names r (node_of op left right mask)
   names-is e n = subst (Names r) (sym e) n
 
-  pub names-leaf : op < 3 → Names r (node_of op left right mask)
-  names-leaf h =
+  pub names_leaf : op < 3 → Names r (node_of op left right mask)
+  names_leaf h =
       by_bool (eqb op 2)
-      (λ e. names-is (node-reads op left right mask (omega tests)) tt)
-      (λ e. names-is (node-fixed op left right mask (omega tests)) tt)
+      (λ e. names-is (node_reads op left right mask (omega tests)) tt)
+      (λ e. names-is (node_fixed op left right mask (omega tests)) tt)
 
-  pub names-flips : op ≡ 3 → r left ≡ true → Names r (node_of op left right mask)
-  names-flips h e = names-is (node-flips op left right mask h) e
+  pub names_flips : op ≡ 3 → r left ≡ true → Names r (node_of op left right mask)
+  names_flips h e = names-is (node_flips op left right mask h) e
 
   pub names-binds : 6 ≤ op → r left ≡ true → Names r (node_of op left right mask)
-  names-binds h e = names-is (node-binds op left right mask h) e
+  names-binds h e = names-is (node_binds op left right mask h) e
 
   pub names-joins : 4 ≤ op → op < 6 → r left ≡ true → r right ≡ true → Names r (node_of op left right mask)
-  names-joins h i e f = names-is (node-joins op left right mask h i) (e, f)
+  names-joins h i e f = names-is (node_joins op left right mask h i) (e, f)
 
 -- ---- a node that spares y, by its numbers
 
@@ -45,23 +45,23 @@ module _ (op left right mask y f : ℕ) (F : ℕ → Bool) (word : (x : ℕ) →
   spares-is : {u : Node} → node_of op left right mask ≡ u → Spares y F u → Spares y F (node_of op left right mask)
   spares-is e c = subst (Spares y F) (sym e) c
 
-  pub spares-reads : op ≡ 2 → (left ≡ y → ⊥) → Spares y F (node_of op left right mask)
-  spares-reads h n = spares-is (node-reads op left right mask h) (ne_eqb left y n)
+  pub spares_reads : op ≡ 2 → (left ≡ y → ⊥) → Spares y F (node_of op left right mask)
+  spares_reads h n = spares-is (node_reads op left right mask h) (ne_eqb left y n)
 
-  pub spares-gate : (op ≡ 2 → ⊥) → op < 6 → Spares y F (node_of op left right mask)
-  spares-gate h i =
+  pub spares_gate : (op ≡ 2 → ⊥) → op < 6 → Spares y F (node_of op left right mask)
+  spares_gate h i =
       by_bool (ltb op 2)
-      (λ a. spares-is (node-fixed op left right mask (omega tests)) tt)
+      (λ a. spares-is (node_fixed op left right mask (omega tests)) tt)
       (λ a. by_bool (eqb op 3)
-      (λ b. spares-is (node-flips op left right mask (omega tests)) tt)
+      (λ b. spares-is (node_flips op left right mask (omega tests)) tt)
       (λ b. by_bool (eqb op 2)
       (λ c. absurd (h (omega tests)))
-      (λ c. spares-is (node-joins op left right mask (omega tests) i) tt)))
+      (λ c. spares-is (node_joins op left right mask (omega tests) i) tt)))
 
-  pub spares-binds : 6 ≤ op → bit mask y ≡ false → bit_and f mask ≡ 0 → Spares y F (node_of op left right mask)
-  spares-binds h n a =
+  pub spares_binds : 6 ≤ op → bit mask y ≡ false → bit_and f mask ≡ 0 → Spares y F (node_of op left right mask)
+  spares_binds h n a =
       let p : Apart f mask = record { none = a } in
-      spares-is (node-binds op left right mask h) (n, λ k i. bits-apart p k (word k ∙ i))
+      spares-is (node_binds op left right mask h) (n, λ k i. bits_apart p k (word k ∙ i))
 
 -- ---- a pass
 
@@ -78,12 +78,12 @@ unfolding unmarked
 unmarked-here marks i v l e = sym (get_or-set_same marks i v 0 l) ∙ eqb-true (get_or (set marks i v) i 0) 0 e
 
 module _ {P : ℕ → Type 0} {N : Net} {stop : ℕ} where
-  pub marking-none : (marks : List ℕ) → Marking P N stop marks 0
-  marking-none marks = record { clean = λ k l. absurd (omega arith) }
+  pub marking_none : (marks : List ℕ) → Marking P N stop marks 0
+  marking_none marks = record { clean = λ k l. absurd (omega arith) }
 
   -- node i has a mark, or may do without
-  pub marking-next : {marks : List ℕ} {i v : ℕ} → Ordered N → Marking P N stop marks i → i < length marks → (v ≡ 0 → Clean P N stop marks i) → Marking P N stop (set marks i v) (i + 1)
-  marking-next {marks} {i} {v} o M l c =
+  pub marking_next : {marks : List ℕ} {i v : ℕ} → Ordered N → Marking P N stop marks i → i < length marks → (v ≡ 0 → Clean P N stop marks i) → Marking P N stop (set marks i v) (i + 1)
+  marking_next {marks} {i} {v} o M l c =
       record {
         clean = λ k h e n. by_bool (eqb k i)
             (λ q. let is = eqb-true k i q in
@@ -106,30 +106,30 @@ below-is : (marks : List ℕ) (i k : ℕ) → k < i → unmarked marks k ≡ tru
 unfolding below
 below-is marks i k l e = rw (lt-ltb k i l, e)
 
-below-has : (marks : List ℕ) (i k : ℕ) → below marks i k ≡ true → (k < i) × (unmarked marks k ≡ true)
+below_has : (marks : List ℕ) (i k : ℕ) → below marks i k ≡ true → (k < i) × (unmarked marks k ≡ true)
 unfolding below
-below-has marks i k e = let h = and_both (ltb k i) (unmarked marks k) e in (ltb-true k i h.0, h.1)
+below_has marks i k e = let h = and_both (ltb k i) (unmarked marks k) e in (ltb-true k i h.0, h.1)
 
 module _ {N : Net} (o : Ordered N) (marks : List ℕ) where
   names_in : (i k : ℕ) → k < i → Names (unmarked marks) (N k) → Names (below marks i) (N k)
   names_in i k l = names-below k (N k) (o.fit k) (λ j m e. below-is marks i j (omega arith) e)
 
-  pub marks-inside : {body g y i : ℕ} → Marking (λ k. Spares y (frees N g) (N k)) N g marks i → body < i → get_or marks body 0 ≡ 0 → Inside N body g y
-  marks-inside {body} {g} {y} {i} M l e =
+  pub marks_inside : {body g y i : ℕ} → Marking (λ k. Spares y (frees N g) (N k)) N g marks i → body < i → get_or marks body 0 ≡ 0 → Inside N body g y
+  marks_inside {body} {g} {y} {i} M l e =
       record {
         inner = below marks i;
         enters = below-is marks i body l (marked-unmarked marks body e);
-        names = λ k t n. let h = below-has marks i k t in names_in i k h.0 (M.clean k h.0 h.1 n).1;
-        spares = λ k t n. let h = below-has marks i k t in (M.clean k h.0 h.1 n).0;
+        names = λ k t n. let h = below_has marks i k t in names_in i k h.0 (M.clean k h.0 h.1 n).1;
+        spares = λ k t n. let h = below_has marks i k t in (M.clean k h.0 h.1 n).0;
       }
 
-  pub marks-outside : {root q g i : ℕ} → Marking (λ k. eqb k g ≡ false) N q marks i → root < i → get_or marks root 0 ≡ 0 → g < q → Outside N root q g
-  marks-outside {root} {q} {g} {i} M l e b =
+  pub marks_outside : {root q g i : ℕ} → Marking (λ k. eqb k g ≡ false) N q marks i → root < i → get_or marks root 0 ≡ 0 → g < q → Outside N root q g
+  marks_outside {root} {q} {g} {i} M l e b =
       record {
         outer = below marks i;
         enters = below-is marks i root l (marked-unmarked marks root e);
-        names = λ k t n. let h = below-has marks i k t in names_in i k h.0 (M.clean k h.0 h.1 n).1;
+        names = λ k t n. let h = below_has marks i k t in names_in i k h.0 (M.clean k h.0 h.1 n).1;
         hidden = by_bool (below marks i g)
-            (λ t. let h = below-has marks i g t in clash (eqb g g) (eq-eqb g g refl) (M.clean g h.0 h.1 (ne_eqb g q (λ z. omega arith))).0)
+            (λ t. let h = below_has marks i g t in clash (eqb g g) (eq-eqb g g refl) (M.clean g h.0 h.1 (ne_eqb g q (λ z. omega arith))).0)
             (λ t. t);
       }

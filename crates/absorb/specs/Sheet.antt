@@ -2,29 +2,29 @@
 use Rattle.std.specs.Prelude.{ℕ, ◌-◌, ◌<◌, ◌≤◌, ◌≡◌, List, length}
 use Rattle.form.specs.Form as Sizes
 use Rattle.sheet.specs.Fields.{Sheet}
-use Rattle.net.specs.Layout.{netForm, framesOf, packed}
+use Rattle.net.specs.Layout.{net_form, frames_of, packed}
 use Rattle.net.specs.Sheet.{NetOf}
 use Rattle.absorb.specs.Absorb.{Absorb}
 
 pub record Absorbable (net : List ℕ) (g y : ℕ) : Type 0 where
-  pub plan : Absorb (packed net) (framesOf net - 1) g y
-  pub here : g < framesOf net
-  pub small : y < Sizes.variables (netForm net)
+  pub plan : Absorb (packed net) (frames_of net - 1) g y
+  pub here : g < frames_of net
+  pub small : y < Sizes.variables (net_form net)
 
 -- the tables have room for n nodes
 pub record Room (n : ℕ) (slots sides frees words marks : List ℕ) : Type 0 where
   pub at_slots : n ≤ length slots
-  pub at-sides : 5 ≤ length sides
+  pub at_sides : 5 ≤ length sides
   pub at-frees : n ≤ length frees
   pub at_words : n ≤ length words
-  pub at-marks : n ≤ length marks
+  pub at_marks : n ≤ length marks
 
 -- whatever sheet the net was of, it is of still, and the tables are as long as they were
 pub record Kept (net₀ slots₀ sides₀ frees₀ words₀ marks₀ net slots sides frees words marks : List ℕ) : Type 0 where
-  pub net-of : (s : Sheet) → NetOf s net₀ → NetOf s net
+  pub net_of : (s : Sheet) → NetOf s net₀ → NetOf s net
   pub long : length net ≡ length net₀
-  pub same-slots : length slots ≡ length slots₀
-  pub same-sides : length sides ≡ length sides₀
+  pub same_slots : length slots ≡ length slots₀
+  pub same_sides : length sides ≡ length sides₀
   pub same-frees : length frees ≡ length frees₀
-  pub same-words : length words ≡ length words₀
-  pub same-marks : length marks ≡ length marks₀
+  pub same_words : length words ≡ length words₀
+  pub same_marks : length marks ≡ length marks₀

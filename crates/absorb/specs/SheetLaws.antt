@@ -14,16 +14,16 @@ use Rattle.form.specs.Form as Sizes
 use Rattle.form.specs.Form.{few-variables}
 use Rattle.form.specs.declared.Form.{Form}
 use Rattle.sheet.specs.Fields.{Sheet}
-use Rattle.net.specs.Net.{Node, Fixed, Reads, Flips, Joins, Binds, Net, node-reads, build, meaning, value, Fit, Ordered, meaning-is, replace, replace-here, replace-other, upward, Clear, Distinct}
-use Rattle.net.specs.Clear.{ranged-replace}
-use Rattle.net.specs.Stands.{serves-trans}
-use Rattle.net.specs.Layout.{netWords, netForm, form-same, framesOf, first_word, unpack, packed, changed, formulaAt, Ground, Is, is-binds}
-use Rattle.net.specs.StoreLaws.{Stored, stored-long, stored_other, stored-count, stored-opens, stored-gauged, stored-first, stored-net}
+use Rattle.net.specs.Net.{Node, Fixed, Reads, Flips, Joins, Binds, Net, node_reads, build, meaning, value, Fit, Ordered, meaning-is, replace, replace-here, replace-other, upward, Clear, Distinct}
+use Rattle.net.specs.Clear.{ranged_replace}
+use Rattle.net.specs.Stands.{serves_trans}
+use Rattle.net.specs.Layout.{net_words, net_form, form_same, frames_of, first_word, unpack, packed, changed, formula_at, Ground, Is, is-binds}
+use Rattle.net.specs.StoreLaws.{Stored, stored-long, stored_other, stored-count, stored_opens, stored-gauged, stored-first, stored_net}
 use Rattle.net.specs.Sheet.{NetOf, net-form}
 use Rattle.absorb.specs.Absorb.{Turns, Names, Inside, Outside}
-use Rattle.absorb.specs.AbsorbLaws.{absorb-ordered, absorb-serves}
+use Rattle.absorb.specs.AbsorbLaws.{absorb_ordered, absorb_serves}
 use Rattle.absorb.specs.Spread.{still, Spreading}
-use Rattle.absorb.specs.SpreadLaws.{noted-ground}
+use Rattle.absorb.specs.SpreadLaws.{noted_ground}
 use Rattle.absorb.specs.Sheet.{Absorbable, Room, Kept}
 
 -- ---- a node that becomes an INPUT binds nothing
@@ -41,8 +41,8 @@ module _ (N : Net) (g y : ℕ) where
   clear_reads : {a z : ℕ} → Clear N a z → Clear (replace N g (Reads y)) a z
   clear_reads C = record { apart = λ j l e. C.apart j l (old-binder j e) }
 
-  distinct-reads : Distinct N → Distinct (replace N g (Reads y))
-  distinct-reads D = record { below = λ k e. clear_reads (D.below k (old-binder k e)) }
+  distinct_reads : Distinct N → Distinct (replace N g (Reads y))
+  distinct_reads D = record { below = λ k e. clear_reads (D.below k (old-binder k e)) }
 
 -- ---- nodes that do not reach g are built as before
 
@@ -56,9 +56,9 @@ build-names f h r k (Joins d a b) w n e = ap₂ (gate d) (e a w.0 n.0) (e b w.1 
 build-names f h r k (Binds d m a) w n e = ap (over d m) (e a w n)
 
 -- nets that agree on the nodes of a set, below n, whose names are in it
-pub meaning-closed : (N M : Net) → Ordered N → Ordered M → (r : ℕ → Bool) (n : ℕ) → ((k : ℕ) → k < n → r k ≡ true → (M k ≡ N k) × Names r (N k))
+pub meaning_closed : (N M : Net) → Ordered N → Ordered M → (r : ℕ → Bool) (n : ℕ) → ((k : ℕ) → k < n → r k ≡ true → (M k ≡ N k) × Names r (N k))
     → (k : ℕ) → k < n → r k ≡ true → meaning M k ≡ meaning N k
-meaning-closed N M o p r n h =
+meaning_closed N M o p r n h =
     upward (λ k. k < n → r k ≡ true → meaning M k ≡ meaning N k)
     (λ k ih l e. let z = h k l e in
     meaning-is M p k ∙ rw z.0 (build-names (meaning M) (meaning N) r k (N k) (o.fit k) z.1 (λ a i t. ih a i (omega arith) t)) ∙ sym (meaning-is N o k))
@@ -73,23 +73,23 @@ unfolding unpack
 input-word {w} {y} e l =
     let a : w % 8 ≡ 2 = omega arith in
     let b : w / 16 % 4096 ≡ y = mod_low (w / 16) 0 y l (omega arith) in
-    rw (a, b) (node-reads 2 y (w / 65536 % 4096) 0 refl)
+    rw (a, b) (node_reads 2 y (w / 65536 % 4096) 0 refl)
 
 -- ---- node g stored
 
 module _ {s : Sheet} {net net₁ : List ℕ} {g y w : ℕ} (N : NetOf s net) (A : Absorbable net g y) (is : w ≡ 10 + 16 * y) (S : Stored net g w 0 net₁) where
   low : y < 4096
-  low = omega (arith, A.small, few-variables (netForm net))
+  low = omega (arith, A.small, few-variables (net_form net))
 
   stored-input : packed net₁ ≡ replace (packed net) g (Reads y)
-  stored-input = stored-net S (omega (arith, A.here, N.ground.room)) ∙ ap (replace (packed net) g) (input-word is low)
+  stored-input = stored_net S (omega (arith, A.here, N.ground.room)) ∙ ap (replace (packed net) g) (input-word is low)
 
-  pub stored-ground : Ground net₁
-  stored-ground =
+  pub stored_ground : Ground net₁
+  stored_ground =
       record {
-        ordered = rw stored-input (absorb-ordered A.plan);
-        ranged = λ j. rw (stored-input, form-same net net₁ (stored-long S)) (ranged-replace (Sizes.variables (netForm net)) (packed net) g (Reads y) N.ground.ranged A.small j);
-        distinct = rw stored-input (distinct-reads (packed net) g y N.ground.distinct);
+        ordered = rw stored-input (absorb_ordered A.plan);
+        ranged = λ j. rw (stored-input, form_same net net₁ (stored-long S)) (ranged_replace (Sizes.variables (net_form net)) (packed net) g (Reads y) N.ground.ranged A.small j);
+        distinct = rw stored-input (distinct_reads (packed net) g y N.ground.distinct);
         room = omega (arith, N.ground.room, stored-long S, stored-count S);
         few = omega (arith, N.ground.few, stored-long S);
       }
@@ -97,7 +97,7 @@ module _ {s : Sheet} {net net₁ : List ℕ} {g y w : ℕ} (N : NetOf s net) (A 
 -- ---- the net of the sheet
 
 module _ {s : Sheet} {net net₁ net₂ : List ℕ} {g y w n : ℕ} (N : NetOf s net) (A : Absorbable net g y) (is : w ≡ 10 + 16 * y)
-    (S : Stored net g w 0 net₁) (D : Spreading net₁ net₂ n) (all : n ≡ framesOf net₁) where
+    (S : Stored net g w 0 net₁) (D : Spreading net₁ net₂ n) (all : n ≡ frames_of net₁) where
   abbrev M : Net
   M = replace (packed net) g (Reads y)
 
@@ -107,11 +107,11 @@ module _ {s : Sheet} {net net₁ net₂ : List ℕ} {g y w n : ℕ} (N : NetOf s
   long : length net₂ ≡ length net
   long = D.noted.long ∙ stored-long S
 
-  count : framesOf net₂ ≡ framesOf net
+  count : frames_of net₂ ≡ frames_of net
   count = D.noted.count ∙ stored-count S
 
   ordered : Ordered M
-  ordered = absorb-ordered A.plan
+  ordered = absorb_ordered A.plan
 
   -- g itself is changed
   changed-g : changed net₂ g ≡ true
@@ -126,14 +126,14 @@ module _ {s : Sheet} {net net₁ net₂ : List ℕ} {g y w n : ℕ} (N : NetOf s
       (λ q. rw (eqb-true k g q) changed-g)
       (λ q. D.noted.more k (ap (λ (x : ℕ). ltb 7 (x % 16)) (stored_other S (first_word k) (λ z. omega tests) (λ z. omega arith)) ∙ e))
 
-  was-still : (k : ℕ) → changed net₂ k ≡ false → changed net k ≡ false
-  was-still k e = by_bool (changed net k) (λ t. clash (changed net₂ k) (changed-still k t) e) (λ t. t)
+  was_still : (k : ℕ) → changed net₂ k ≡ false → changed net k ≡ false
+  was_still k e = by_bool (changed net k) (λ t. clash (changed net₂ k) (changed-still k t) e) (λ t. t)
 
   -- a node that is not changed has the formula that it had
-  formula-still : (k : ℕ) → k < framesOf net → changed net₂ k ≡ false → meaning M k ≡ formulaAt net k
+  formula-still : (k : ℕ) → k < frames_of net → changed net₂ k ≡ false → meaning M k ≡ formula_at net k
   unfolding still
   formula-still k l e =
-      meaning-closed (packed net) M N.ground.ordered ordered (still net₂) (framesOf net)
+      meaning_closed (packed net) M N.ground.ordered ordered (still net₂) (frames_of net)
       (λ j i t. let c = off j t in
       let same = replace-other (packed net) g (Reads y) j (by_bool (eqb j g) (λ q. clash (changed net₂ j) (rw (eqb-true j g q) changed-g) c) (λ q. q)) in
       (same, subst (Names (still net₂)) (ap (λ (K : Net). K j) absorbed ∙ same) (D.closed j (omega (arith, stored-count S)) c)))
@@ -142,33 +142,33 @@ module _ {s : Sheet} {net net₁ net₂ : List ℕ} {g y w n : ℕ} (N : NetOf s
       off : (j : ℕ) → not (changed net₂ j) ≡ true → changed net₂ j ≡ false
       off j t = by_bool (changed net₂ j) (λ q. clash true refl (sym t ∙ ap not q)) (λ q. q)
 
-  pub absorbed-net : NetOf s net₂
-  absorbed-net =
+  pub absorbed_net : NetOf s net₂
+  absorbed_net =
       record {
-        ground = noted-ground (stored-ground N A is S) D.noted;
+        ground = noted_ground (stored_ground N A is S) D.noted;
         long = long ∙ N.long;
         count = count ∙ N.count;
-        opens = D.noted.opens ∙ stored-opens S ∙ N.opens;
+        opens = D.noted.opens ∙ stored_opens S ∙ N.opens;
         gauged = D.noted.gauged ∙ stored-gauged S ∙ N.gauged;
         bounded = N.bounded;
-        each = λ k l e. rw (absorbed, formula-still k (omega (arith, N.count)) e) (N.each k l (was-still k e));
-        ends = serves-trans N.ends (rw absorbed (rw (ap (λ (x : ℕ). x - 1) N.count) at (absorb-serves A.plan)));
-        clear = rw (absorbed, D.noted.opens ∙ stored-opens S) (clear_reads (packed net) g y N.clear);
+        each = λ k l e. rw (absorbed, formula-still k (omega (arith, N.count)) e) (N.each k l (was_still k e));
+        ends = serves_trans N.ends (rw absorbed (rw (ap (λ (x : ℕ). x - 1) N.count) at (absorb_serves A.plan)));
+        clear = rw (absorbed, D.noted.opens ∙ stored_opens S) (clear_reads (packed net) g y N.clear);
         empty = λ i h. D.noted.behind i (omega (arith, count, stored-count S))
             ∙ stored_other S i (λ e. omega (arith, count, A.here)) (λ e. omega (arith, count, A.here)) ∙ N.empty i (omega (arith, count));
       }
 
 -- ---- what the tests show, as the code has them
 
-module _ (net : List ℕ) {y v : ℕ} {F : Form} (form : F ≡ netForm net) (most : v ≡ Sizes.variables F) (l : y < v) where
-  pub small-form : y < Sizes.variables (netForm net)
-  small-form = subst (λ (x : ℕ). y < x) (most ∙ ap Sizes.variables form) l
+module _ (net : List ℕ) {y v : ℕ} {F : Form} (form : F ≡ net_form net) (most : v ≡ Sizes.variables F) (l : y < v) where
+  pub small_form : y < Sizes.variables (net_form net)
+  small_form = subst (λ (x : ℕ). y < x) (most ∙ ap Sizes.variables form) l
 
   pub small_low : y < 64
-  small_low = omega (arith, small-form, few-variables (netForm net))
+  small_low = omega (arith, small_form, few-variables (net_form net))
 
-pub absorbable : {net : List ℕ} {q op left right mask g y : ℕ} → Ground net → Is net q op left right mask → 6 ≤ op → bit mask y ≡ true → g < q → q < framesOf net
-    → y < Sizes.variables (netForm net) → Turns y (value (packed net) g) → Inside (packed net) left g y → Outside (packed net) (framesOf net - 1) q g → Absorbable net g y
+pub absorbable : {net : List ℕ} {q op left right mask g y : ℕ} → Ground net → Is net q op left right mask → 6 ≤ op → bit mask y ≡ true → g < q → q < frames_of net
+    → y < Sizes.variables (net_form net) → Turns y (value (packed net) g) → Inside (packed net) left g y → Outside (packed net) (frames_of net - 1) q g → Absorbable net g y
 absorbable {net} {q} {op} {left} {right} {mask} G I h b l i s t inner outer =
     record {
       plan = record {
@@ -192,7 +192,7 @@ absorbable {net} {q} {op} {left} {right} {mask} G I h b l i s t inner outer =
 
 pub kept-none : (net slots sides frees words marks : List ℕ) → Kept net slots sides frees words marks net slots sides frees words marks
 kept-none net slots sides frees words marks =
-    record { net-of = λ s N. N; long = refl; same-slots = refl; same-sides = refl; same-frees = refl; same-words = refl; same-marks = refl }
+    record { net_of = λ s N. N; long = refl; same_slots = refl; same_sides = refl; same-frees = refl; same_words = refl; same_marks = refl }
 
 module _ {net₀ slots₀ sides₀ frees₀ words₀ marks₀ net slots sides frees words marks : List ℕ} (K : Kept net₀ slots₀ sides₀ frees₀ words₀ marks₀ net slots sides frees words marks) where
   -- one try more
@@ -200,27 +200,27 @@ module _ {net₀ slots₀ sides₀ frees₀ words₀ marks₀ net slots sides fr
       → Kept net₀ slots₀ sides₀ frees₀ words₀ marks₀ net' slots' sides' frees' words' marks'
   kept_then L =
       record {
-        net-of = λ s N. L.net-of s (K.net-of s N);
+        net_of = λ s N. L.net_of s (K.net_of s N);
         long = L.long ∙ K.long;
-        same-slots = L.same-slots ∙ K.same-slots;
-        same-sides = L.same-sides ∙ K.same-sides;
+        same_slots = L.same_slots ∙ K.same_slots;
+        same_sides = L.same_sides ∙ K.same_sides;
         same-frees = L.same-frees ∙ K.same-frees;
-        same-words = L.same-words ∙ K.same-words;
-        same-marks = L.same-marks ∙ K.same-marks;
+        same_words = L.same_words ∙ K.same_words;
+        same_marks = L.same_marks ∙ K.same_marks;
       }
 
   -- the frames are as many as before
-  pub kept-count : {s : Sheet} → NetOf s net₀ → framesOf net ≡ framesOf net₀
-  kept-count {s} N = (K.net-of s N).count ∙ sym N.count
+  pub kept-count : {s : Sheet} → NetOf s net₀ → frames_of net ≡ frames_of net₀
+  kept-count {s} N = (K.net_of s N).count ∙ sym N.count
 
-  pub kept-room : {s : Sheet} → NetOf s net₀ → Room (framesOf net₀) slots₀ sides₀ frees₀ words₀ marks₀ → Room (framesOf net) slots sides frees words marks
+  pub kept-room : {s : Sheet} → NetOf s net₀ → Room (frames_of net₀) slots₀ sides₀ frees₀ words₀ marks₀ → Room (frames_of net) slots sides frees words marks
   kept-room N R =
       record {
-        at_slots = omega (arith, kept-count N, R.at_slots, K.same-slots);
-        at-sides = omega (arith, R.at-sides, K.same-sides);
+        at_slots = omega (arith, kept-count N, R.at_slots, K.same_slots);
+        at_sides = omega (arith, R.at_sides, K.same_sides);
         at-frees = omega (arith, kept-count N, R.at-frees, K.same-frees);
-        at_words = omega (arith, kept-count N, R.at_words, K.same-words);
-        at-marks = omega (arith, kept-count N, R.at-marks, K.same-marks);
+        at_words = omega (arith, kept-count N, R.at_words, K.same_words);
+        at_marks = omega (arith, kept-count N, R.at_marks, K.same_marks);
       }
 
 -- ---- tables as they are made, for a net of either form
@@ -230,11 +230,11 @@ pub blank-room : {slots sides frees words marks : List ℕ} (most n : ℕ) → n
 blank-room {slots} {sides} {frees} {words} {marks} most n l a b c d e =
     record {
       at_slots = omega (arith, ap length a ∙ length-replicate {A = ℕ} most 0);
-      at-sides = omega (arith, ap length b ∙ length-replicate {A = ℕ} 5 0);
+      at_sides = omega (arith, ap length b ∙ length-replicate {A = ℕ} 5 0);
       at-frees = omega (arith, ap length c ∙ length-replicate {A = ℕ} most 0);
       at_words = omega (arith, ap length d ∙ length-replicate {A = ℕ} most 0);
-      at-marks = omega (arith, ap length e ∙ length-replicate {A = ℕ} most 0);
+      at_marks = omega (arith, ap length e ∙ length-replicate {A = ℕ} most 0);
     }
 
-pub form-long : {s : Sheet} {net : List ℕ} → NetOf s net → (F : Form) → netForm net ≡ F → length net ≡ netWords F
-form-long N F e = N.long ∙ ap netWords (sym (net-form N) ∙ e)
+pub form_long : {s : Sheet} {net : List ℕ} → NetOf s net → (F : Form) → net_form net ≡ F → length net ≡ net_words F
+form_long N F e = N.long ∙ ap net_words (sym (net-form N) ∙ e)

@@ -9,16 +9,16 @@ use Rattle.std.proofs.Math.Dec.{ltb}
 use borrow.Author.Tests.{eqb-true, lt-ltb}
 use Rattle.words.specs.Logic.{by_bool, clash, tests}
 use Rattle.net.specs.Net.{Ordered}
-use Rattle.net.specs.Layout.{form-same, framesOf, first_word, secondWord, unpack, packed, changed, Ground}
+use Rattle.net.specs.Layout.{form_same, frames_of, first_word, second_word, unpack, packed, changed, Ground}
 use Rattle.absorb.specs.Absorb.{Names}
 use Rattle.absorb.specs.Spread.{Noted, still, NotedAt, Spreading}
 use Rattle.absorb.specs.MarksLaws.{names-below}
 
-pub noted-refl : (net : List ℕ) → Noted net net
-noted-refl net = record { long = refl; count = refl; opens = refl; gauged = refl; nodes = λ k. refl; behind = λ i h. refl; more = λ k e. e }
+pub noted_refl : (net : List ℕ) → Noted net net
+noted_refl net = record { long = refl; count = refl; opens = refl; gauged = refl; nodes = λ k. refl; behind = λ i h. refl; more = λ k e. e }
 
-noted-trans : {a b c : List ℕ} → Noted a b → Noted b c → Noted a c
-noted-trans {a} {b} {c} L M =
+noted_trans : {a b c : List ℕ} → Noted a b → Noted b c → Noted a c
+noted_trans {a} {b} {c} L M =
     record {
       long = M.long ∙ L.long;
       count = M.count ∙ L.count;
@@ -30,12 +30,12 @@ noted-trans {a} {b} {c} L M =
     }
 
 -- so it can be searched as before
-pub noted-ground : {net net' : List ℕ} → Ground net → Noted net net' → Ground net'
-noted-ground {net} {net'} G M =
+pub noted_ground : {net net' : List ℕ} → Ground net → Noted net net' → Ground net'
+noted_ground {net} {net'} G M =
     let same : packed net' ≡ packed net = fun_ext M.nodes in
     record {
       ordered = rw same G.ordered;
-      ranged = λ k. rw (form-same net net' M.long, M.nodes k) (G.ranged k);
+      ranged = λ k. rw (form_same net net' M.long, M.nodes k) (G.ranged k);
       distinct = rw same G.distinct;
       room = omega (arith, G.room, M.long, M.count);
       few = omega (arith, G.few, M.long);
@@ -52,10 +52,10 @@ room-more w l e = go (w % 16) refl e
 
 -- it is changed already, or names no changed node
 pub noted-as-is : {net : List ℕ} {k : ℕ} → (changed net k ≡ false → Names (still net) (packed net k)) → NotedAt net net k
-noted-as-is {net} h = record { noted = noted-refl net; at = h; others = λ j n. refl }
+noted-as-is {net} h = record { noted = noted_refl net; at = h; others = λ j n. refl }
 
 -- 8 more in its first word, which has not the bit
-module _ {net net' : List ℕ} {k w : ℕ} (G : Ground net) (l : k < framesOf net) (low : changed net k ≡ false) (was : w ≡ get_or net (first_word k) 0) (is : net' ≡ set net (first_word k) (w + 8)) where
+module _ {net net' : List ℕ} {k w : ℕ} (G : Ground net) (l : k < frames_of net) (low : changed net k ≡ false) (was : w ≡ get_or net (first_word k) 0) (is : net' ≡ set net (first_word k) (w + 8)) where
   other : (i : ℕ) → (i ≡ first_word k → ⊥) → get_or net' i 0 ≡ get_or net i 0
   other i n = ap (λ (r : List ℕ). get_or r i 0) is ∙ get_or-set_other net (first_word k) i (w + 8) 0 n
 
@@ -95,8 +95,8 @@ module _ {net net' : List ℕ} {k w : ℕ} (G : Ground net) (l : k < framesOf ne
           opens = other 1 (λ z. omega arith);
           gauged = other 2 (λ z. omega arith);
           nodes = λ j. by_bool (eqb j k)
-              (λ q. rw (eqb-true j k q) (ap₂ unpack here (other (secondWord k) (λ z. omega arith)) ∙ unpack-more (get_or net (secondWord k) 0) ∙ ap (λ (x : ℕ). unpack x (get_or net (secondWord k) 0)) was))
-              (λ q. ap₂ unpack (other (first_word j) (λ z. omega tests)) (other (secondWord j) (λ z. omega arith)));
+              (λ q. rw (eqb-true j k q) (ap₂ unpack here (other (second_word k) (λ z. omega arith)) ∙ unpack-more (get_or net (second_word k) 0) ∙ ap (λ (x : ℕ). unpack x (get_or net (second_word k) 0)) was))
+              (λ q. ap₂ unpack (other (first_word j) (λ z. omega tests)) (other (second_word j) (λ z. omega arith)));
           behind = λ i h. other i (λ z. omega arith);
           more = λ j e. by_bool (eqb j k)
               (λ q. rw (eqb-true j k q) changed-here)
@@ -108,14 +108,14 @@ module _ {net net' : List ℕ} {k w : ℕ} (G : Ground net) (l : k < framesOf ne
 
 -- ---- all of them
 
-pub spreading-none : (net : List ℕ) → Spreading net net 0
-spreading-none net = record { noted = noted-refl net; closed = λ k l. absurd (omega arith) }
+pub spreading_none : (net : List ℕ) → Spreading net net 0
+spreading_none net = record { noted = noted_refl net; closed = λ k l. absurd (omega arith) }
 
-pub spreading-next : {net₀ net net' : List ℕ} {i : ℕ} → Ordered (packed net) → Spreading net₀ net i → NotedAt net net' i → Spreading net₀ net' (i + 1)
+pub spreading_next : {net₀ net net' : List ℕ} {i : ℕ} → Ordered (packed net) → Spreading net₀ net i → NotedAt net net' i → Spreading net₀ net' (i + 1)
 unfolding still
-spreading-next {net₀} {net} {net'} {i} o S N =
+spreading_next {net₀} {net} {net'} {i} o S N =
     record {
-      noted = noted-trans S.noted N.noted;
+      noted = noted_trans S.noted N.noted;
       closed = λ k l e. by_bool (eqb k i)
           (λ q. let is = eqb-true k i q in
           subst (λ (j : ℕ). Names (still net') (packed net' j)) (sym is) (before i (omega arith) (N.at (subst (λ (j : ℕ). changed net' j ≡ false) is e))))

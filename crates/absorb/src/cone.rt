@@ -1,9 +1,9 @@
 // The cone of a node over y: its gates are computed for all values of y and of five side nodes at once, one lane of a word for each.
 ghost use Rattle.std.specs.Prelude.{◌≡◌, ◌+◌, ◌<◌, ◌≤◌, true, length};
 ghost use Rattle.net.specs.Net.{node_of, value};
-ghost use Rattle.net.specs.Layout.{framesOf, packed, Ground};
+ghost use Rattle.net.specs.Layout.{frames_of, packed, Ground};
 ghost use Rattle.absorb.specs.Absorb.{Turns};
-ghost use Rattle.absorb.specs.Cone.{at, freeWord, pattern, gateWord, laneWord, Gate, PlacedAt, FreeTable, LaneTable, Near, SideOk, SidesOk};
+ghost use Rattle.absorb.specs.Cone.{at, free_word, pattern, gate_word, lane_word, Gate, PlacedAt, FreeTable, LaneTable, Near, SideOk, SidesOk};
 
 use net::{Node, node_at};
 use words::w64;
@@ -29,7 +29,7 @@ const EVEN: u64 = 0x5555555555555555;
 // The free variables of a node, from those of the nodes that it names.
 pub fn free_word(node: Node, words: &[u64]) -> u64
     requires { Near (length words.now) node.op node.left node.right }
-    ensures { result ≡ freeWord (at words.now) (node_of node.op node.left node.right node.mask) }
+    ensures { result ≡ free_word (at words.now) (node_of node.op node.left node.right node.mask) }
 {
     if node.op < 2 {
         return 0;
@@ -51,7 +51,7 @@ pub fn free_word(node: Node, words: &[u64]) -> u64
 
 // Those of the first n nodes.
 pub fn free_words(net: &[u64], n: usize, words: &mut [u64])
-    requires { Ground net.now × (n ≤ framesOf net.now) × (n ≤ length words.old) }
+    requires { Ground net.now × (n ≤ frames_of net.now) × (n ≤ length words.old) }
     ensures { FreeTable net.now words.new n }
 {
     let mut k: usize = 0;
@@ -89,7 +89,7 @@ fn pattern_of(slot: u8) -> u64
 // The lanes of a gate, from those of the nodes that it names.
 fn gate_word(node: Node, words: &[u64]) -> u64
     requires { Near (length words.now) node.op node.left node.right }
-    ensures { result ≡ gateWord (at words.now) (node_of node.op node.left node.right node.mask) }
+    ensures { result ≡ gate_word (at words.now) (node_of node.op node.left node.right node.mask) }
 {
     if node.op == 0 {
         return 0;
@@ -119,7 +119,7 @@ fn gate_word(node: Node, words: &[u64]) -> u64
 // The lanes of a node by its slot.
 fn lane_at(node: Node, slot: u8, words: &[u64]) -> u64
     requires { Near (length words.now) node.op node.left node.right }
-    ensures { result ≡ laneWord words.now slot node.op node.left node.right node.mask }
+    ensures { result ≡ lane_word words.now slot node.op node.left node.right node.mask }
 {
     if slot < 6 {
         return pattern_of(slot);
@@ -178,7 +178,7 @@ fn place_ok(node: Node, slots: &[u8], sides: &[usize], k: usize, y: u8) -> bool
 
 // The lanes of the first `top` nodes, and whether the cone among them is in order.
 fn lanes(net: &[u64], y: u8, slots: &[u8], sides: &[usize], top: usize, words: &mut [u64]) -> bool
-    requires { Ground net.now × (top ≤ framesOf net.now) × (top ≤ length slots.now) × (5 ≤ length sides.now) × (top ≤ length words.old) }
+    requires { Ground net.now × (top ≤ frames_of net.now) × (top ≤ length slots.now) × (5 ≤ length sides.now) × (top ≤ length words.old) }
     ensures { result ≡ true → LaneTable net.now y slots.now sides.now words.new top }
 {
     let mut k: usize = 0;
@@ -235,7 +235,7 @@ pub fn turns(
     frees: &[u64],
     words: &mut [u64],
 ) -> bool
-    requires ground { Ground net.now × FreeTable net.now frees.now (g + 1) × (y < 64) × (g < framesOf net.now) × (5 ≤ length sides.now) }
+    requires ground { Ground net.now × FreeTable net.now frees.now (g + 1) × (y < 64) × (g < frames_of net.now) × (5 ≤ length sides.now) }
     requires g_in_bounds { (g < length slots.now) × (g < length frees.now) × (g < length words.old) }
     ensures { result ≡ true → Turns y (value (packed net.now) g) }
 {

@@ -7,7 +7,7 @@ mod spread;
 
 ghost use Rattle.std.specs.Prelude.{◌≡◌, ◌<◌, ◌≤◌, true, length};
 ghost use Rattle.sheet.specs.Fields.{Sheet};
-ghost use Rattle.net.specs.Layout.{framesOf};
+ghost use Rattle.net.specs.Layout.{frames_of};
 ghost use Rattle.net.specs.Sheet.{NetOf};
 ghost use Rattle.absorb.specs.Sheet.{Absorbable, Room};
 
@@ -32,7 +32,7 @@ fn may_absorb(
     words: &mut [u64],
     marks: &mut [u8],
 ) -> bool
-    requires { ((s : Sheet) × NetOf s net.now) × Room (framesOf net.now) slots.now sides.now frees.old words.old marks.old }
+    requires { ((s : Sheet) × NetOf s net.now) × Room (frames_of net.now) slots.now sides.now frees.old words.old marks.old }
     ensures { result ≡ true → Absorbable net.now g y }
 {
     if q >= frames(net) {
@@ -77,7 +77,7 @@ fn try_absorb(
     words: &mut [u64],
     marks: &mut [u8],
 ) -> bool
-    requires { ((s : Sheet) × NetOf s net.old) × Room (framesOf net.old) slots.now sides.now frees.old words.old marks.old }
+    requires { ((s : Sheet) × NetOf s net.old) × Room (frames_of net.old) slots.now sides.now frees.old words.old marks.old }
     ensures { (s : Sheet) → NetOf s net.old → NetOf s net.new }
 {
     if !may_absorb(&net[..], q, g, y, slots, sides, frees, words, marks) {
@@ -116,7 +116,7 @@ fn try_variable(
     words: &mut [u64],
     marks: &mut [u8],
 ) -> Tried
-    requires { ((s : Sheet) × NetOf s net.old) × Room (framesOf net.old) slots.old sides.old frees.old words.old marks.old × (g < framesOf net.old) × (y < 64) }
+    requires { ((s : Sheet) × NetOf s net.old) × Room (frames_of net.old) slots.old sides.old frees.old words.old marks.old × (g < frames_of net.old) × (y < 64) }
     ensures { (s : Sheet) → NetOf s net.old → NetOf s net.new }
 {
     let growth = propose::grow(&net[..], g, y, steps, &frees[..], slots, sides);
@@ -154,7 +154,7 @@ fn try_word(
     words: &mut [u64],
     marks: &mut [u8],
 ) -> Tried
-    requires { ((s : Sheet) × NetOf s net.old) × Room (framesOf net.old) slots.old sides.old frees.old words.old marks.old × (g < framesOf net.old) }
+    requires { ((s : Sheet) × NetOf s net.old) × Room (frames_of net.old) slots.old sides.old frees.old words.old marks.old × (g < frames_of net.old) }
     ensures { (s : Sheet) → NetOf s net.old → NetOf s net.new }
 {
     let mut tried = Tried { done: false, steps };
@@ -182,7 +182,7 @@ fn try_node(
     words: &mut [u64],
     marks: &mut [u8],
 ) -> Tried
-    requires { ((s : Sheet) × NetOf s net.old) × Room (framesOf net.old) slots.old sides.old frees.old words.old marks.old × (g < framesOf net.old) }
+    requires { ((s : Sheet) × NetOf s net.old) × Room (frames_of net.old) slots.old sides.old frees.old words.old marks.old × (g < frames_of net.old) }
     ensures { (s : Sheet) → NetOf s net.old → NetOf s net.new }
 {
     propose::refresh(&net[..], g, frees);
@@ -224,7 +224,7 @@ fn sweep(
     words: &mut [u64],
     marks: &mut [u8],
 ) -> bool
-    requires { ((s : Sheet) × NetOf s net.old) × Room (framesOf net.old) slots.old sides.old frees.old words.old marks.old }
+    requires { ((s : Sheet) × NetOf s net.old) × Room (frames_of net.old) slots.old sides.old frees.old words.old marks.old }
     ensures { (s : Sheet) → NetOf s net.old → NetOf s net.new }
 {
     let n = frames(&net[..]);
@@ -250,7 +250,7 @@ fn absorb_in(
     words: &mut [u64],
     marks: &mut [u8],
 )
-    requires { ((s : Sheet) × NetOf s net.old) × Room (framesOf net.old) slots.old sides.old frees.old words.old marks.old }
+    requires { ((s : Sheet) × NetOf s net.old) × Room (frames_of net.old) slots.old sides.old frees.old words.old marks.old }
     ensures { (s : Sheet) → NetOf s net.old → NetOf s net.new }
 {
     let word = exclusive::deep(&net[..], frees);

@@ -1,6 +1,6 @@
 // What is proposed to `try_absorb`: a cone for a node and a variable, and the quantifier. Nothing is proved of it but that it ends, since all of it is tested there.
 ghost use Rattle.std.specs.Prelude.{◌<◌, ◌≤◌, length};
-ghost use Rattle.net.specs.Layout.{framesOf, HasNode, Ground};
+ghost use Rattle.net.specs.Layout.{frames_of, HasNode, Ground};
 ghost use Rattle.absorb.specs.Cone.{Near};
 
 use crate::cone::free_word;
@@ -134,7 +134,7 @@ fn expand(
     k: usize,
     growth: Growth,
 ) -> Growth
-    requires { Ground net.now × (k < framesOf net.now) × (y < 64) × (k < length frees.now) × (k < length slots.old) × (5 ≤ length sides.old) }
+    requires { Ground net.now × (k < frames_of net.now) × (y < 64) × (k < length frees.now) × (k < length slots.old) × (5 ≤ length sides.old) }
 {
     if slots[k] != COMPUTED {
         return growth;
@@ -163,7 +163,7 @@ fn step(
     k: usize,
     growth: Growth,
 ) -> Growth
-    requires { Ground net.now × (k < framesOf net.now) × (y < 64) × (k < length frees.now) × (k < length slots.old) × (5 ≤ length sides.old) }
+    requires { Ground net.now × (k < frames_of net.now) × (y < 64) × (k < length frees.now) × (k < length slots.old) × (5 ≤ length sides.old) }
 {
     if growth.steps == 0 {
         return lose(growth);
@@ -206,7 +206,7 @@ pub fn grow(
     slots: &mut [u8],
     sides: &mut [usize],
 ) -> Growth
-    requires { Ground net.now × (g < framesOf net.now) × (y < 64) × (g < length frees.now) × (g < length slots.old) × (5 ≤ length sides.old) }
+    requires { Ground net.now × (g < frames_of net.now) × (y < 64) × (g < length frees.now) × (g < length slots.old) × (5 ≤ length sides.old) }
 {
     seed(slots, g);
     let mut growth = Growth {
@@ -248,7 +248,7 @@ pub fn binder(net: &[u64], g: usize, y: u8) -> usize
 
 // The free variables of node k go into the table.
 pub fn refresh(net: &[u64], k: usize, frees: &mut [u64])
-    requires { Ground net.now × (k < framesOf net.now) × (k < length frees.old) }
+    requires { Ground net.now × (k < frames_of net.now) × (k < length frees.old) }
 {
     let word = free_word(node_at(net, k), &frees[..]);
     frees[k] = word;

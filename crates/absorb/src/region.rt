@@ -2,7 +2,7 @@
 ghost use Rattle.std.specs.Prelude.{◌≡◌, ℕ, ◌-◌, ◌<◌, ◌≤◌, Bool, true, false, eqb, length};
 ghost use Rattle.words.specs.Word.{bit};
 ghost use Rattle.net.specs.Net.{node_of, frees};
-ghost use Rattle.net.specs.Layout.{framesOf, packed, Ground};
+ghost use Rattle.net.specs.Layout.{frames_of, packed, Ground};
 ghost use Rattle.absorb.specs.Absorb.{Names, Spares, Inside, Outside};
 ghost use Rattle.absorb.specs.Cone.{Near};
 ghost use Rattle.absorb.specs.Marks.{unmarked, Clean};
@@ -69,7 +69,7 @@ fn flag(marked: bool) -> u8
 
 // Whether node k, or one below it but not below g, does not spare y.
 fn spoils(net: &[u64], k: usize, g: usize, y: u8, f: u64, marks: &[u8]) -> bool
-    requires ground { Ground net.now × (k < framesOf net.now) × (y < 64) × (k ≤ length marks.now) }
+    requires ground { Ground net.now × (k < frames_of net.now) × (y < 64) × (k ≤ length marks.now) }
     requires by_index { (x : ℕ) → bit f x ≡ frees (packed net.now) g x }
     ensures { result ≡ false → Clean (λ j. Spares y (frees (packed net.now) g) (packed net.now j)) (packed net.now) g marks.now k }
 {
@@ -85,7 +85,7 @@ fn spoils(net: &[u64], k: usize, g: usize, y: u8, f: u64, marks: &[u8]) -> bool
 
 // Whether y is read below `body` through g only, and nothing on the way binds what g reads.
 pub fn inside(net: &[u64], body: usize, g: usize, y: u8, f: u64, marks: &mut [u8]) -> bool
-    requires ground { Ground net.now × (body < framesOf net.now) × (y < 64) × (body < length marks.old) }
+    requires ground { Ground net.now × (body < frames_of net.now) × (y < 64) × (body < length marks.old) }
     requires by_index { (x : ℕ) → bit f x ≡ frees (packed net.now) g x }
     ensures { result ≡ true → Inside (packed net.now) body g y }
 {
@@ -103,7 +103,7 @@ pub fn inside(net: &[u64], body: usize, g: usize, y: u8, f: u64, marks: &mut [u8
 
 // Whether node k is g, or reaches it, but not through q.
 fn sees(net: &[u64], k: usize, q: usize, g: usize, marks: &[u8]) -> bool
-    requires { Ground net.now × (k < framesOf net.now) × (k ≤ length marks.now) }
+    requires { Ground net.now × (k < frames_of net.now) × (k ≤ length marks.now) }
     ensures { result ≡ false → Clean (λ j. eqb j g ≡ false) (packed net.now) q marks.now k }
 {
     if k == g {
@@ -117,8 +117,8 @@ fn sees(net: &[u64], k: usize, q: usize, g: usize, marks: &[u8]) -> bool
 
 // Whether the root reaches g through q only.
 pub fn outside(net: &[u64], q: usize, g: usize, marks: &mut [u8]) -> bool
-    requires { Ground net.now × (g < q) × (0 < framesOf net.now) × (framesOf net.now ≤ length marks.old) }
-    ensures { result ≡ true → Outside (packed net.now) (framesOf net.now - 1) q g }
+    requires { Ground net.now × (g < q) × (0 < frames_of net.now) × (frames_of net.now ≤ length marks.old) }
+    ensures { result ≡ true → Outside (packed net.now) (frames_of net.now - 1) q g }
 {
     let n = frames(net);
     let mut k: usize = 0;

@@ -1,7 +1,7 @@
 // Node g stored as an INPUT, and the bit that says so of it and of every node above it: those no longer stand for their frames.
 ghost use Rattle.std.specs.Prelude.{◌≡◌, ◌<◌, true, false};
 ghost use Rattle.sheet.specs.Fields.{Sheet};
-ghost use Rattle.net.specs.Layout.{framesOf, packed, Ground};
+ghost use Rattle.net.specs.Layout.{frames_of, packed, Ground};
 ghost use Rattle.net.specs.Sheet.{NetOf};
 ghost use Rattle.absorb.specs.Absorb.{Names};
 ghost use Rattle.absorb.specs.Spread.{still, NotedAt, Spreading};
@@ -15,7 +15,7 @@ const CHANGED: u64 = 8;
 
 // Whether node k names a changed one.
 fn names_changed(net: &[u64], k: usize) -> bool
-    requires { Ground net.now × (k < framesOf net.now) }
+    requires { Ground net.now × (k < frames_of net.now) }
     ensures { result ≡ false → Names (still net.now) (packed net.now k) }
 {
     let node = node_at(net, k);
@@ -39,7 +39,7 @@ fn names_changed(net: &[u64], k: usize) -> bool
 
 // Node k is changed if it names a changed one.
 fn spread_at(net: &mut [u64], k: usize)
-    requires { Ground net.old × (k < framesOf net.old) }
+    requires { Ground net.old × (k < frames_of net.old) }
     ensures { NotedAt net.old net.new k }
 {
     if changed(&net[..], k) {
@@ -56,7 +56,7 @@ fn spread_at(net: &mut [u64], k: usize)
 // Every node, from the first on.
 fn spread(net: &mut [u64])
     requires { Ground net.old }
-    ensures { Spreading net.old net.new (framesOf net.old) }
+    ensures { Spreading net.old net.new (frames_of net.old) }
 {
     let n = frames(&net[..]);
     let mut k: usize = 0;

@@ -1,6 +1,6 @@
 -- One call of `run` or `run_wide`: what was lent to it, and what it left and told. Assumes nothing.
 use Rattle.std.specs.Prelude.{ℕ, ◌≤◌, ◌≡◌, List, length}
-use Rattle.form.specs.Form.{answerStart}
+use Rattle.form.specs.Form.{answer_start}
 use Rattle.sheet.specs.Fields.{Sheet}
 use Rattle.model.specs.Model.{lines}
 use Rattle.certificate.specs.Run.{Run}
@@ -31,4 +31,4 @@ Meets sheet script o = Run sheet script o.ans o.under o.over o.ans' o.under' o.o
 -- and it was lent an answer buffer that is long enough
 pub record Ample (sheet : Sheet) (script : List ℕ) (o : Call) : Type 0 where
   pub meets : Meets sheet script o
-  pub room : answerStart sheet.form (lines script) ≤ length o.ans
+  pub room : answer_start sheet.form (lines script) ≤ length o.ans

@@ -4,10 +4,10 @@ use Rattle.std.proofs.Common.{arith, add-one, ◌∙◌, le-leb}
 use Rattle.std.proofs.lemmas.Bool.{lt-leb}
 use Rattle.words.specs.Logic.{by_bool, tests}
 use Rattle.sheet.specs.Fields.{Sheet}
-use Rattle.records.specs.Table.{kept-grown}
-use Rattle.records.specs.Both.{tables-none, tables-same, tables_then}
+use Rattle.records.specs.Table.{kept_grown}
+use Rattle.records.specs.Both.{tables_none, tables_same, tables_then}
 use Rattle.solver.specs.Contract.{Tables}
-use Rattle.certificate.specs.Run.{Held, asLent, Grows, Promised-at, LineRecords, History}
+use Rattle.certificate.specs.Run.{Held, as_lent, Grows, Promised-at, LineRecords, History}
 
 -- every counted record is true
 abbrev pub RecordsTrue : Sheet → Held → Type 0
@@ -15,12 +15,12 @@ RecordsTrue sheet h = Tables sheet h.under h.cu h.over h.co
 
 -- ---- tables that grow
 
-pub lent-true : (sheet : Sheet) (under over : List ℕ) → RecordsTrue sheet (asLent under over)
-lent-true sheet under over = tables-none under over
+pub lent-true : (sheet : Sheet) (under over : List ℕ) → RecordsTrue sheet (as_lent under over)
+lent-true sheet under over = tables_none under over
 
 -- what was promised still stands in larger tables
-pub promised-grows : (sheet : Sheet) (script : List ℕ) (i : ℕ) {h h' : Held} → Grows sheet h h' → Promised-at sheet script i h → Promised-at sheet script i h'
-promised-grows sheet script i g p = (λ y. kept-grown _ _ _ g.under (p.0 y), λ n. kept-grown _ _ _ g.over (p.1 n))
+pub promised_grows : (sheet : Sheet) (script : List ℕ) (i : ℕ) {h h' : Held} → Grows sheet h h' → Promised-at sheet script i h → Promised-at sheet script i h'
+promised_grows sheet script i g p = (λ y. kept_grown _ _ _ g.under (p.0 y), λ n. kept_grown _ _ _ g.over (p.1 n))
 
 -- ---- no line, and one line more
 
@@ -39,13 +39,13 @@ module _ {sheet : Sheet} {script : List ℕ} {n : ℕ} {h h₁ h₂ : Held} (H :
   unfolding longer
   longer-new = rw (lt-leb (n + 1) n (omega arith))
 
-  longer-each : (i : ℕ) → i < n + 1 → LineRecords sheet script i (longer i) (longer (i + 1))
-  longer-each i l = by_bool (eqb i n)
+  longer_each : (i : ℕ) → i < n + 1 → LineRecords sheet script i (longer i) (longer (i + 1))
+  longer_each i l = by_bool (eqb i n)
       (λ t. let e : i ≡ n = omega tests in rw (e, longer-old n (omega arith), H.ends, longer-new) K)
       (λ t. rw (longer-old i (omega tests), longer-old (i + 1) (omega tests)) (H.each i (omega tests)))
 
   pub history-next : History sheet script (n + 1) h h₂
-  history-next = record { records = longer; starts = longer-old 0 (omega arith) ∙ H.starts; each = longer-each; ends = longer-new }
+  history-next = record { records = longer; starts = longer-old 0 (omega arith) ∙ H.starts; each = longer_each; ends = longer-new }
 
 -- ---- from one line to a later one
 
@@ -54,8 +54,8 @@ module _ {sheet : Sheet} {script : List ℕ} {n : ℕ} {h h' : Held} (H : Histor
   history-true zero l = rw H.starts t
   history-true (suc i) l = rw (add-one i) at (H.each i (omega arith)).grows.tables
 
-  pub history-grows : (i j : ℕ) → i ≤ j → j ≤ n → Grows sheet (H.records i) (H.records j)
-  history-grows i zero l m = let e : i ≡ 0 = omega arith in rw e (tables-same (history-true 0 (omega arith)))
-  history-grows i (suc j) l m = by_bool (eqb i (suc j))
-      (λ t. let e : i ≡ suc j = omega tests in rw e (tables-same (history-true (suc j) m)))
-      (λ t. tables_then (history-grows i j (omega tests) (omega arith)) (rw (add-one j) at (H.each j (omega arith)).grows))
+  pub history_grows : (i j : ℕ) → i ≤ j → j ≤ n → Grows sheet (H.records i) (H.records j)
+  history_grows i zero l m = let e : i ≡ 0 = omega arith in rw e (tables_same (history-true 0 (omega arith)))
+  history_grows i (suc j) l m = by_bool (eqb i (suc j))
+      (λ t. let e : i ≡ suc j = omega tests in rw e (tables_same (history-true (suc j) m)))
+      (λ t. tables_then (history_grows i j (omega tests) (omega arith)) (rw (add-one j) at (H.each j (omega arith)).grows))

@@ -8,54 +8,54 @@ use Rattle.words.specs.Bytes.{bytes_of}
 use Rattle.words.specs.Mask.{without, inside, mask_of}
 use Rattle.formula.specs.Assignment.{assign, within, join}
 use Rattle.formula.specs.Formula.{Formula, free}
-use Rattle.formula.specs.Ask.{freeMask}
-use Rattle.formula.specs.Why.{overlay, startMask, startWord}
+use Rattle.formula.specs.Ask.{free_mask}
+use Rattle.formula.specs.Why.{overlay, start_mask, start_word}
 use Rattle.formula.specs.Gauges.{unread, ours}
-use Rattle.formula.specs.Compute.{sweepOver, truthOver, firstOver, askOver, alwaysOver, reduceOver, whyOver}
-use Rattle.formula.specs.GaugeCompute.{quantsOver, possibleOver, assuredOver, leastOver, failsOver, verdictOver, reasonOver, verdictOver-verdict, reasonOver-reason}
+use Rattle.formula.specs.Compute.{sweep_over, truth_over, first_over, ask_over, always_over, reduce_over, why_over}
+use Rattle.formula.specs.GaugeCompute.{quants_over, possible_over, assured_over, least_over, fails_over, verdict_over, reason_over, verdict_over-verdict, reason_over-reason}
 use Rattle.form.specs.Form.{variables}
 use Rattle.form.specs.declared.Form.TheVariants.{Narrow}
 use Rattle.sheet.specs.Fields.{narrow, fields_at, kind_of}
-use Rattle.sheet.specs.Frames.{build, tree, formulaOf}
+use Rattle.sheet.specs.Frames.{build, tree, formula_of}
 use Rattle.sheet.specs.Cause.{first}
-use Rattle.sheet.specs.Rules.{someBelow, used, spareSet, names, someLate, badRange, badVariables, binds, namesInput, namesGauge, someBefore, gauges, meet, namedBoth, bindsGauge, lengthCauses, fieldCauses, causesBelow, frameCauses}
+use Rattle.sheet.specs.Rules.{some_below, used, spare_set, names, some_late, bad_range, bad_variables, binds, names_input, names_gauge, some_before, gauges, meet, named_both, binds_gauge, length_causes, field_causes, causes_below, frame_causes}
 use Rattle.model.specs.Model as Model
 use Rattle.model.specs.Model.{Meaning, meaning}
-use Rattle.certificate.specs.Run.{scriptCauses, roomCauses}
-use Rattle.certificate.specs.Panel.{bytesOfAll, Outcome, Case, panel, gauged, outcomeBy, outcome}
+use Rattle.certificate.specs.Run.{script_causes, room_causes}
+use Rattle.certificate.specs.Panel.{bytes_of_all, Outcome, Case, panel, gauged, outcome_by, outcome}
 
 -- a formula's meaning through the twins of ASK and WHY that visit only its own variables
-unfoldable meaningOver : ℕ → Formula → ℕ → Meaning
-meaningOver n f g = record { opens = λ x. ltb x n && free f x; asks = verdictOver n f g; whys = reasonOver n f g }
+unfoldable meaning_over : ℕ → Formula → ℕ → Meaning
+meaning_over n f g = record { opens = λ x. ltb x n && free f x; asks = verdict_over n f g; whys = reason_over n f g }
 
-meaningOver-meaning : (n : ℕ) (f : Formula) (g : ℕ) → meaningOver n f g ≡ meaning n f g
-unfolding meaningOver meaning
-meaningOver-meaning n f g = λ i. record {
+meaning_over-meaning : (n : ℕ) (f : Formula) (g : ℕ) → meaning_over n f g ≡ meaning n f g
+unfolding meaning_over meaning
+meaning_over-meaning n f g = λ i. record {
   opens = λ x. ltb x n && free f x;
-  asks = λ mask values. verdictOver-verdict n f g mask values i;
-  whys = λ mask values. reasonOver-reason n f g mask values i;
+  asks = λ mask values. verdict_over-verdict n f g mask values i;
+  whys = λ mask values. reason_over-reason n f g mask values i;
 }
 
-unfoldable outcomeOver : Case → Outcome
-outcomeOver c = outcomeBy (meaningOver (variables Narrow)) (narrow (bytesOfAll 4 c.sheet)) (bytesOfAll 4 c.script)
+unfoldable outcome_over : Case → Outcome
+outcome_over c = outcome_by (meaning_over (variables Narrow)) (narrow (bytes_of_all 4 c.sheet)) (bytes_of_all 4 c.script)
 
-outcome-over : (c : Case) → outcome c ≡ outcomeOver c
-unfolding outcome outcomeOver
+outcome-over : (c : Case) → outcome c ≡ outcome_over c
+unfolding outcome outcome_over
 outcome-over c =
-    ap (λ (m : Formula → ℕ → Meaning). outcomeBy m (narrow (bytesOfAll 4 c.sheet)) (bytesOfAll 4 c.script))
-    (fun_ext (λ f. fun_ext (λ g. sym (meaningOver-meaning (variables Narrow) f g))))
+    ap (λ (m : Formula → ℕ → Meaning). outcome_by m (narrow (bytes_of_all 4 c.sheet)) (bytes_of_all 4 c.script))
+    (fun_ext (λ f. fun_ext (λ g. sym (meaning_over-meaning (variables Narrow) f g))))
 
 abbrev expected : Case → Outcome
 expected c = c.expected
 
-computed : (map outcomeOver panel ≡ map expected panel) × (map outcomeOver gauged ≡ map expected gauged)
-unfolding panel gauged outcomeOver outcomeBy flat_map bytes_of
-    first lengthCauses scriptCauses roomCauses frameCauses causesBelow fieldCauses
-    someBelow used spareSet names someLate badRange badVariables binds namesInput namesGauge someBefore gauges meet namedBoth bindsGauge
-    fields_at kind_of build tree formulaOf free within
-    meaningOver verdictOver reasonOver assuredOver possibleOver quantsOver leastOver failsOver unread ours
-    askOver whyOver firstOver truthOver sweepOver alwaysOver reduceOver freeMask mask_of join assign overlay startMask startWord without inside bit
-    Model.enteredMask Model.enteredValues Model.entered Model.answerBytes Model.used Model.unknown Model.lineRefusal Model.obeyed Model.line Model.line_at Model.after Model.answerAt Model.answersTo Model.answers
+computed : (map outcome_over panel ≡ map expected panel) × (map outcome_over gauged ≡ map expected gauged)
+unfolding panel gauged outcome_over outcome_by flat_map bytes_of
+    first length_causes script_causes room_causes frame_causes causes_below field_causes
+    some_below used spare_set names some_late bad_range bad_variables binds names_input names_gauge some_before gauges meet named_both binds_gauge
+    fields_at kind_of build tree formula_of free within
+    meaning_over verdict_over reason_over assured_over possible_over quants_over least_over fails_over unread ours
+    ask_over why_over first_over truth_over sweep_over always_over reduce_over free_mask mask_of join assign overlay start_mask start_word without inside bit
+    Model.entered_mask Model.entered_values Model.entered Model.answer_bytes Model.used Model.unknown Model.line_refusal Model.obeyed Model.line Model.line_at Model.after Model.answer_at Model.answers_to Model.answers
 computed = (refl, refl)
 
 -- The definitions give every case of the table what document 01 says: the refusal with its place, or the answers.

@@ -6,22 +6,22 @@ use Rattle.std.proofs.Common.{ap, ◌∙◌, ne_eqb}
 use Rattle.std.proofs.Math.Bool.{true, false, not, and-false}
 use Rattle.words.specs.Logic.{clash, or_cases}
 use Rattle.words.specs.Word.{bit, bit-and, bit-or, bit-none, ext}
-use Rattle.words.specs.Mask.{Sub, without, bit-without, bits-sub, sub-bits, bits-apart, sub-or-left, sub-or-right}
+use Rattle.words.specs.Mask.{Sub, without, bit-without, bits_sub, sub-bits, bits_apart, sub-or-left, sub-or-right}
 use Rattle.formula.specs.Assignment.{Assignment, On}
 use Rattle.formula.specs.Formula.{Formula, truth, free}
 use Rattle.formula.specs.Ask.{Verdict, ask, Entries, bit-free, some-ask, ask-some, ask-word, ask-none}
-use Rattle.formula.specs.Why.{why, startWord, why-holds, why-forces, why-free, why-entered, why-idle}
+use Rattle.formula.specs.Why.{why, start_word, why-holds, why_forces, why-free, why-entered, why_idle}
 use Rattle.formula.specs.Gauges.{unread, verdict, reason}
-use Rattle.formula.specs.GaugeLaws.{unread-apart, verdict-plain, verdict-every, every-verdict, verdict-smallest, verdict-failing, reason-plain, reason-holds, reason-entered, reason-forces, reason-needed, revalued}
+use Rattle.formula.specs.GaugeLaws.{unread-apart, verdict-plain, verdict-every, every-verdict, verdict_smallest, verdict_failing, reason-plain, reason-holds, reason-entered, reason_forces, reason_needed, revalued}
 use Rattle.sheet.specs.Fields.{Sheet, frames, variables, kind}
 use Rattle.sheet.specs.Rules.{gauges}
-use Rattle.sheet.specs.Gauges.{no-gauges, some-gauge}
+use Rattle.sheet.specs.Gauges.{no-gauges, some_gauge}
 use Rattle.sheet.specs.Keeps.{Keeps}
 use Rattle.sheet.specs.declared.Kind.TheVariants.{Gauge}
-use Rattle.solver.specs.Contract.{root, verdictOf, reasonOf}
+use Rattle.solver.specs.Contract.{root, verdict_of, reason_of}
 use Rattle.model.specs.declared.Entry.{Entry}
-use Rattle.model.specs.Model.{enteredMask, enteredValues, entered}
-use Rattle.model.specs.Entries.{Entered, bit-enteredMask, value_none}
+use Rattle.model.specs.Model.{entered_mask, entered_values, entered}
+use Rattle.model.specs.Entries.{Entered, bit-entered_mask, value_none}
 use Rattle.model.specs.Agree.{Agrees, agrees_on, on_agrees}
 use Rattle.certificate.specs.Run.{book}
 use Rattle.certificate.specs.Before.{book-entries}
@@ -85,8 +85,8 @@ pub record Chooses (n : ℕ) (f : Formula) (es : List Entry) (a : Verdict) : Typ
 -- ---- WHY
 
 -- the values that a reason goes by: ASK's word on yes, the entries' on no
-abbrev pub reasonValues : List Entry → Verdict → ℕ
-reasonValues es a = cond a.holds a.word (enteredValues es)
+abbrev pub reason_values : List Entry → Verdict → ℕ
+reason_values es a = cond a.holds a.word (entered_values es)
 
 -- what WHY's answer r says of f and the entries, on a sheet without a frame of kind 07, where ASK's is a; its word is a mask of variables
 pub record Reason (f : Formula) (es : List Entry) (a r : Verdict) : Type 0 where
@@ -96,9 +96,9 @@ pub record Reason (f : Formula) (es : List Entry) (a r : Verdict) : Type 0 where
   pub opened : (k : ℕ) → bit r.word k ≡ true → free f k ≡ true
   pub among : a.holds ≡ false → (k : ℕ) → bit r.word k ≡ true → entered es k ≡ true
   -- all assignments that agree with the values on the mask give f the verdict's truth
-  pub forces : (σ : Assignment) → On (bit r.word) σ (bit (reasonValues es a)) → truth f σ ≡ a.holds
+  pub forces : (σ : Assignment) → On (bit r.word) σ (bit (reason_values es a)) → truth f σ ≡ a.holds
   -- no variable is idle: with any one taken out, some agreeing assignment gives f the other truth
-  pub needed : (k : ℕ) → bit r.word k ≡ true → (σ : Assignment) × On (bit (without r.word (2 ^ k))) σ (bit (reasonValues es a)) × (truth f σ ≡ not a.holds)
+  pub needed : (k : ℕ) → bit r.word k ≡ true → (σ : Assignment) × On (bit (without r.word (2 ^ k))) σ (bit (reason_values es a)) × (truth f σ ≡ not a.holds)
 
 -- some frame of the sheet is of kind 07, reached or not
 abbrev pub Gauged : Sheet → Type 0
@@ -106,12 +106,12 @@ Gauged sheet = (j : ℕ) × (x : ℕ) × (j < frames sheet) × (kind sheet j ≡
 
 -- y has values of the variables that es enters, and on those of the mask m the values that were entered
 pub record Revalued (es : List Entry) (m y : ℕ) : Type 0 where
-  pub inside : Sub y (enteredMask es)
-  pub agrees : On (bit m) (bit y) (bit (enteredValues es))
+  pub inside : Sub y (entered_mask es)
+  pub agrees : On (bit m) (bit y) (bit (entered_values es))
 
 -- the verdict of ASK where the variables of es are entered with the values of y
-abbrev pub askedWith : ℕ → Formula → ℕ → List Entry → ℕ → Bool
-askedWith n f g es y = (verdict n f g (enteredMask es) y).holds
+abbrev pub asked_with : ℕ → Formula → ℕ → List Entry → ℕ → Bool
+asked_with n f g es y = (verdict n f g (entered_mask es) y).holds
 
 -- what a yes means there: for every assignment with those values some assignment with the same waiting gauges has them too and makes f true
 abbrev pub Assures : Formula → ℕ → List Entry → ℕ → Type 0
@@ -124,9 +124,9 @@ pub record GaugedReason (n : ℕ) (f : Formula) (g : ℕ) (es : List Entry) (a r
   -- its variables are entered ones, on yes too
   pub among : (k : ℕ) → bit r.word k ≡ true → entered es k ≡ true
   -- whatever values the entered variables outside the mask have, the verdict is the same
-  pub forces : (y : ℕ) → Revalued es r.word y → askedWith n f g es y ≡ a.holds
+  pub forces : (y : ℕ) → Revalued es r.word y → asked_with n f g es y ≡ a.holds
   -- no variable is idle: with any one taken out, there are values with the other verdict
-  pub needed : (k : ℕ) → bit r.word k ≡ true → (y : ℕ) × Revalued es (without r.word (2 ^ k)) y × (askedWith n f g es y ≡ not a.holds)
+  pub needed : (k : ℕ) → bit r.word k ≡ true → (y : ℕ) × Revalued es (without r.word (2 ^ k)) y × (asked_with n f g es y ≡ not a.holds)
 
 -- ---- the definitions of ASK and WHY say it
 
@@ -141,19 +141,19 @@ module _ (sheet : Sheet) (es : List Entry) (K : Keeps sheet) (d : Entered (book 
   γ = gauges sheet
 
   abbrev mask : ℕ
-  mask = enteredMask es
+  mask = entered_mask es
 
   abbrev values : ℕ
-  values = enteredValues es
+  values = entered_values es
 
   abbrev hidden : ℕ
   hidden = unread vs φ γ mask
 
   abbrev asked : Verdict
-  asked = verdictOf sheet mask values
+  asked = verdict_of sheet mask values
 
   abbrev because : Verdict
-  because = reasonOf sheet mask values
+  because = reason_of sheet mask values
 
   entries : Entries vs φ mask values
   entries = book-entries sheet es K d
@@ -161,7 +161,7 @@ module _ (sheet : Sheet) (es : List Entry) (K : Keeps sheet) (d : Entered (book 
   -- the word of the unread gauges marks those that wait
   bit-hidden : (k : ℕ) → bit hidden k ≡ waits φ γ es k
   unfolding unread
-  bit-hidden k = simp (bit-and, bit-without, bit-free entries.bounded, bit-enteredMask) (go (free φ k) (bit γ k) (entered es k))
+  bit-hidden k = simp (bit-and, bit-without, bit-free entries.bounded, bit-entered_mask) (go (free φ k) (bit γ k) (entered es k))
     where
       go : (a b c : Bool) → (a && not c) && b ≡ a && (b && not c)
       go true true true = refl
@@ -172,7 +172,7 @@ module _ (sheet : Sheet) (es : List Entry) (K : Keeps sheet) (d : Entered (book 
 
   -- and they have no value
   hidden-none : (k : ℕ) → bit hidden k ≡ true → bit values k ≡ false
-  hidden-none k h = value_none es k (sym (bit-enteredMask es k) ∙ bits-apart (unread-apart vs φ γ mask) k h)
+  hidden-none k h = value_none es k (sym (bit-entered_mask es k) ∙ bits_apart (unread-apart vs φ γ mask) k h)
 
   pub asked-decides : Decides vs φ γ es asked
   asked-decides = record {
@@ -180,38 +180,38 @@ module _ (sheet : Sheet) (es : List Entry) (K : Keeps sheet) (d : Entered (book 
       λ y σ a. let r = verdict-every γ entries y σ (agrees_on d σ a) in (r.0, on_agrees d r.0 r.1, λ k h. r.2 k (bit-hidden k ∙ h), r.3),
       λ h. every-verdict γ entries (λ σ a. let r = h σ (on_agrees d σ a) in (r.0, agrees_on d r.0 r.1, λ k i. r.2 k (sym (bit-hidden k) ∙ i), r.3)),
     );
-    smallest = λ y. let w = verdict-smallest γ entries y in
+    smallest = λ y. let w = verdict_smallest γ entries y in
         record {
           below = w.below;
-          agrees = on_agrees d (bit asked.word) (λ k h. w.agrees k (bits-sub (sub-or-left mask hidden) k h));
+          agrees = on_agrees d (bit asked.word) (λ k h. w.agrees k (bits_sub (sub-or-left mask hidden) k h));
           holds = w.holds;
           stays = w.stays;
-          rests = λ k h. let i = bit-hidden k ∙ h in w.agrees k (bits-sub (sub-or-right mask hidden) k i) ∙ hidden-none k i;
+          rests = λ k h. let i = bit-hidden k ∙ h in w.agrees k (bits_sub (sub-or-right mask hidden) k i) ∙ hidden-none k i;
           least = λ z a t r. w.least z
               (λ k h. or_cases (bit mask k) (bit hidden k) (sym (bit-or mask hidden k) ∙ h)
               (λ i. agrees_on d (bit z) a k i)
               (λ i. r k (sym (bit-hidden k) ∙ i) ∙ sym (hidden-none k i))) t;
         };
-    failing = λ y. let w = verdict-failing γ entries y in
+    failing = λ y. let w = verdict_failing γ entries y in
         record {
-          setting = λ k h. sym (bit-hidden k) ∙ bits-sub w.inside k h;
+          setting = λ k h. sym (bit-hidden k) ∙ bits_sub w.inside k h;
           never = λ σ a b. w.fails σ (agrees_on d σ a) (λ k h. b k (sym (bit-hidden k) ∙ h));
           least = λ z s l. let r = w.least z (sub-bits z hidden (λ k h. bit-hidden k ∙ s k h)) l in (r.0, on_agrees d r.0 r.1, λ k h. r.2 k (bit-hidden k ∙ h), r.3);
         };
   }
 
   -- with other values entered
-  pub asked-with : (y : ℕ) → Sub y mask → (askedWith vs φ γ es y ≡ true) ↔ Assures φ γ es y
+  pub asked-with : (y : ℕ) → Sub y mask → (asked_with vs φ γ es y ≡ true) ↔ Assures φ γ es y
   asked-with y i =
       let E = revalued entries y i in (
-        λ h σ a. let r = verdict-every γ E h σ (λ k m. a k (sym (bit-enteredMask es k) ∙ m)) in (r.0, λ k m. r.1 k (bit-enteredMask es k ∙ m), λ k m. r.2 k (bit-hidden k ∙ m), r.3),
-        λ h. every-verdict γ E (λ σ a. let r = h σ (λ k m. a k (bit-enteredMask es k ∙ m)) in (r.0, λ k m. r.1 k (sym (bit-enteredMask es k) ∙ m), λ k m. r.2 k (sym (bit-hidden k) ∙ m), r.3)),
+        λ h σ a. let r = verdict-every γ E h σ (λ k m. a k (sym (bit-entered_mask es k) ∙ m)) in (r.0, λ k m. r.1 k (bit-entered_mask es k ∙ m), λ k m. r.2 k (bit-hidden k ∙ m), r.3),
+        λ h. every-verdict γ E (λ σ a. let r = h σ (λ k m. a k (bit-entered_mask es k ∙ m)) in (r.0, λ k m. r.1 k (sym (bit-entered_mask es k) ∙ m), λ k m. r.2 k (sym (bit-hidden k) ∙ m), r.3)),
       )
 
   -- ---- no gauge waits
 
-  ask-chooses : Chooses vs φ es (ask vs φ mask values)
-  ask-chooses = record {
+  ask_chooses : Chooses vs φ es (ask vs φ mask values)
+  ask_chooses = record {
     exactly = (
       λ y. let r = ask-some vs φ mask values y in (r.0, on_agrees d r.0 r.1, r.2),
       λ r. some-ask entries r.0 (agrees_on d r.0 r.1) r.2,
@@ -228,11 +228,11 @@ module _ (sheet : Sheet) (es : List Entry) (K : Keeps sheet) (d : Entered (book 
   }
 
   module _ (calm : (k : ℕ) → waits φ γ es k ≡ false) where
-    pub calm-ask : asked ≡ ask vs φ mask values
-    calm-ask = verdict-plain γ entries (ext hidden 0 (λ k. bit-hidden k ∙ calm k ∙ sym (bit-none k)))
+    pub calm_ask : asked ≡ ask vs φ mask values
+    calm_ask = verdict-plain γ entries (ext hidden 0 (λ k. bit-hidden k ∙ calm k ∙ sym (bit-none k)))
 
-    pub calm-chooses : Chooses vs φ es asked
-    calm-chooses = rw calm-ask ask-chooses
+    pub calm_chooses : Chooses vs φ es asked
+    calm_chooses = rw calm_ask ask_chooses
 
   -- ---- no frame is of kind 07
 
@@ -240,35 +240,35 @@ module _ (sheet : Sheet) (es : List Entry) (K : Keeps sheet) (d : Entered (book 
     ungauged : γ ≡ 0
     ungauged = no-gauges sheet (λ j h x e. U (j, x, h, e))
 
-    pub ungauged-calm : (k : ℕ) → waits φ γ es k ≡ false
-    ungauged-calm k = rw (ungauged, bit-none) (and-false (free φ k))
+    pub ungauged_calm : (k : ℕ) → waits φ γ es k ≡ false
+    ungauged_calm k = rw (ungauged, bit-none) (and-false (free φ k))
 
     why-reason : Reason φ es (ask vs φ mask values) (why vs φ mask values)
-    unfolding startWord
+    unfolding start_word
     why-reason = record {
       same = why-holds vs φ mask values;
-      opened = λ k h. sym (bit-free entries.bounded k) ∙ bits-sub (why-free entries) k h;
-      among = λ q k h. sym (bit-enteredMask es k) ∙ bits-sub (why-entered entries q) k h;
-      forces = why-forces entries;
-      needed = why-idle entries;
+      opened = λ k h. sym (bit-free entries.bounded k) ∙ bits_sub (why-free entries) k h;
+      among = λ q k h. sym (bit-entered_mask es k) ∙ bits_sub (why-entered entries q) k h;
+      forces = why_forces entries;
+      needed = why_idle entries;
     }
 
     why-is : because ≡ why vs φ mask values
     why-is = ap (λ (x : ℕ). reason vs φ x mask values) ungauged ∙ reason-plain vs φ mask values
 
     pub ungauged-reason : Reason φ es asked because
-    ungauged-reason = rw (calm-ask ungauged-calm, why-is) why-reason
+    ungauged-reason = rw (calm_ask ungauged_calm, why-is) why-reason
 
   -- ---- some frame is
 
   module _ (G : Gauged sheet) where
     some : eqb γ 0 ≡ false
-    some = ne_eqb γ 0 (λ e. clash (bit γ G.1) (some-gauge sheet K G.0 G.1 G.2 G.3) (ap (λ (w : ℕ). bit w G.1) e ∙ bit-none G.1))
+    some = ne_eqb γ 0 (λ e. clash (bit γ G.1) (some_gauge sheet K G.0 G.1 G.2 G.3) (ap (λ (w : ℕ). bit w G.1) e ∙ bit-none G.1))
 
     pub gauged-reason : GaugedReason vs φ γ es asked because
     gauged-reason = record {
       same = reason-holds γ some entries;
-      among = λ k h. sym (bit-enteredMask es k) ∙ bits-sub (reason-entered γ some entries) k h;
-      forces = λ y r. reason-forces γ some entries y r.inside r.agrees;
-      needed = λ k h. let r = reason-needed γ some entries k h in (r.0, record { inside = r.1; agrees = r.2 }, r.3);
+      among = λ k h. sym (bit-entered_mask es k) ∙ bits_sub (reason-entered γ some entries) k h;
+      forces = λ y r. reason_forces γ some entries y r.inside r.agrees;
+      needed = λ k h. let r = reason_needed γ some entries k h in (r.0, record { inside = r.1; agrees = r.2 }, r.3);
     }

@@ -7,11 +7,11 @@ use Rattle.std.proofs.Math.ListN.{length}
 use Rattle.std.proofs.Math.Seq.{sets}
 use Rattle.std.proofs.lemmas.List.Edits.{sets-eq}
 use Rattle.words.specs.Bytes.{bytes_of}
-use Rattle.words.specs.Stores.{sets-append}
-use Rattle.form.specs.Form.{answersIn, answerStart}
+use Rattle.words.specs.Stores.{sets_append}
+use Rattle.form.specs.Form.{answers_in, answer_start}
 use Rattle.form.specs.declared.Form.TheVariants.{Narrow, Wide}
-use Rattle.model.specs.Model.{Answer, answerBytes}
-use Rattle.model.specs.Script.{length-answerBytes}
+use Rattle.model.specs.Model.{Answer, answer_bytes}
+use Rattle.model.specs.Script.{length-answer_bytes}
 
 -- the list l with bs in place of as many elements from the place at on
 abbrev pub written : List ℕ → ℕ → List ℕ → List ℕ
@@ -33,29 +33,29 @@ halves w =
     let e₄ : w / 2 ^ 32 / 2 ^ 0 % 256 ≡ w / 2 ^ 32 % 256 = omega arith in
     rw (e₇, e₆, e₅, e₄)
 
-length-four : (w : ℕ) → length (bytes_of 4 w) ≡ 4
+length_four : (w : ℕ) → length (bytes_of 4 w) ≡ 4
 unfolding bytes_of
-length-four w = refl
+length_four w = refl
 
 module _ (a : Answer) (l : List ℕ) (i : ℕ) {l₁ l₂ : List ℕ} where
-  pub narrow-written : i < answersIn Narrow (length l) → l₁ ≡ sets l (i * 6) (a.number ∷ a.v ∷ []) → l₂ ≡ sets l₁ (i * 6 + 2) (bytes_of 4 a.word)
-      → l₂ ≡ written l (answerStart Narrow i) (answerBytes Narrow a)
-  unfolding answerBytes
+  pub narrow-written : i < answers_in Narrow (length l) → l₁ ≡ sets l (i * 6) (a.number ∷ a.v ∷ []) → l₂ ≡ sets l₁ (i * 6 + 2) (bytes_of 4 a.word)
+      → l₂ ≡ written l (answer_start Narrow i) (answer_bytes Narrow a)
+  unfolding answer_bytes
   narrow-written h e g =
-      g ∙ rw e (sym (sets-append (a.number ∷ a.v ∷ []) (bytes_of 4 a.word) l (i * 6)))
-      ∙ sets-written (answerBytes Narrow a) l (i * 6) (omega (arith, h, length-four a.word))
+      g ∙ rw e (sym (sets_append (a.number ∷ a.v ∷ []) (bytes_of 4 a.word) l (i * 6)))
+      ∙ sets-written (answer_bytes Narrow a) l (i * 6) (omega (arith, h, length_four a.word))
 
-  pub wide-written : {l₃ : List ℕ} {high : ℕ} → i < answersIn Wide (length l) → high ≡ a.word / 2 ^ 32 → l₁ ≡ sets l (i * 10) (a.number ∷ a.v ∷ [])
-      → l₂ ≡ sets l₁ (i * 10 + 2) (bytes_of 4 high) → l₃ ≡ sets l₂ (i * 10 + 6) (bytes_of 4 a.word) → l₃ ≡ written l (answerStart Wide i) (answerBytes Wide a)
-  unfolding answerBytes
+  pub wide-written : {l₃ : List ℕ} {high : ℕ} → i < answers_in Wide (length l) → high ≡ a.word / 2 ^ 32 → l₁ ≡ sets l (i * 10) (a.number ∷ a.v ∷ [])
+      → l₂ ≡ sets l₁ (i * 10 + 2) (bytes_of 4 high) → l₃ ≡ sets l₂ (i * 10 + 6) (bytes_of 4 a.word) → l₃ ≡ written l (answer_start Wide i) (answer_bytes Wide a)
+  unfolding answer_bytes
   wide-written {l₃} h t e g k =
       let hs = bytes_of 4 (a.word / 2 ^ 32) in
-      let n = length-four (a.word / 2 ^ 32) in
-      let p : l₂ ≡ sets l (i * 10) (a.number ∷ a.v ∷ hs) = g ∙ rw (e, t) (sym (sets-append (a.number ∷ a.v ∷ []) hs l (i * 10))) in
+      let n = length_four (a.word / 2 ^ 32) in
+      let p : l₂ ≡ sets l (i * 10) (a.number ∷ a.v ∷ hs) = g ∙ rw (e, t) (sym (sets_append (a.number ∷ a.v ∷ []) hs l (i * 10))) in
       let six : i * 10 + 6 ≡ i * 10 + length (a.number ∷ a.v ∷ hs) = omega (arith, n) in
-      let s : l₃ ≡ sets l (i * 10) ((a.number ∷ a.v ∷ hs) ++ bytes_of 4 a.word) = k ∙ rw (p, six) (sym (sets-append (a.number ∷ a.v ∷ hs) (bytes_of 4 a.word) l (i * 10))) in
-      let b : (a.number ∷ a.v ∷ hs) ++ bytes_of 4 a.word ≡ answerBytes Wide a = ap (λ (r : List ℕ). a.number ∷ a.v ∷ r) (halves a.word) in
-      s ∙ ap (sets l (i * 10)) b ∙ sets-written (answerBytes Wide a) l (i * 10) (omega (arith, h, length-answerBytes Wide a))
+      let s : l₃ ≡ sets l (i * 10) ((a.number ∷ a.v ∷ hs) ++ bytes_of 4 a.word) = k ∙ rw (p, six) (sym (sets_append (a.number ∷ a.v ∷ hs) (bytes_of 4 a.word) l (i * 10))) in
+      let b : (a.number ∷ a.v ∷ hs) ++ bytes_of 4 a.word ≡ answer_bytes Wide a = ap (λ (r : List ℕ). a.number ∷ a.v ∷ r) (halves a.word) in
+      s ∙ ap (sets l (i * 10)) b ∙ sets-written (answer_bytes Wide a) l (i * 10) (omega (arith, h, length-answer_bytes Wide a))
 
 -- what was written before, and then bs, with what was there behind
 pub written_next : (p bs l : List ℕ) (at : ℕ) → length p ≡ at → written (p ++ drop at l) at bs ≡ (p ++ bs) ++ drop (at + length bs) l

@@ -1,8 +1,8 @@
 -- A text of a question, field by field: the worked question of prenex, with a comment, blanks and tabs. Assumes nothing.
 use Rattle.std.specs.Prelude.{ℕ, false, List, [], ◌∷◌, ◌≡◌, refl}
 use Rattle.prenex.specs.Example.{worked, worked-proper}
-use Rattle.dimacs.specs.Token.{behindComments, tokens, tokensWithin, token, behind, tokenHere, behindHere, afterBlanks, word, blank, separates, tokenOf, letterToken, isFormat, negativeToken, numberToken, decimal, decimalFrom, withDigit, digit}
-use Rattle.dimacs.specs.Page.{page, blocksFields, blockField, atomFields, clausesFields, clauseFields, literalField, Written}
+use Rattle.dimacs.specs.Token.{behind_comments, tokens, tokens_within, token, behind, token_here, behind_here, after_blanks, word, blank, separates, token_of, letter_token, is_format, negative_token, number_token, decimal, decimal_from, with_digit, digit}
+use Rattle.dimacs.specs.Page.{page, blocks_fields, block_field, atom_fields, clauses_fields, clause_fields, literal_field, Written}
 
 -- c x / p cnf 3 2 / a 1 0 / e 2 3 0 / 1 -2 0 / 2 3 -1 0, with a tab before the 3 of the second set, two spaces behind p, and a blank at the end of the third line
 abbrev example : List ℕ
@@ -16,5 +16,5 @@ example =
     ∷ []
 
 pub example-written : Written worked example
-unfolding behindComments tokens tokensWithin token behind tokenHere behindHere afterBlanks word blank separates tokenOf letterToken isFormat negativeToken numberToken decimal decimalFrom withDigit digit page blocksFields blockField atomFields clausesFields clauseFields literalField
+unfolding behind_comments tokens tokens_within token behind token_here behind_here after_blanks word blank separates token_of letter_token is_format negative_token number_token decimal decimal_from with_digit digit page blocks_fields block_field atom_fields clauses_fields clause_fields literal_field
 example-written = record { fields = refl; proper = worked-proper }

@@ -1,7 +1,7 @@
 -- Which texts are questions in QDIMACS: the grammar, on fields. Assumes nothing.
 use Rattle.std.specs.Prelude.{ℕ, suc, Bool, true, false, cond, List, [], ◌∷◌, ◌≡◌, length}
 use Rattle.prenex.specs.Question.{Literal, Block, Clause, Question, Proper}
-use Rattle.dimacs.specs.Token.{behindComments, tokens}
+use Rattle.dimacs.specs.Token.{behind_comments, tokens}
 use Rattle.dimacs.specs.declared.token.Token.{Token}
 use Rattle.dimacs.specs.declared.token.Token.TheVariants.{Line, Problem, Format, Exists, Forall, Number, Negative}
 
@@ -12,38 +12,38 @@ abbrev pub ended : List Token → List Token
 ended rest = Number 0 ∷ Line ∷ rest
 
 -- variables are written from 1 on
-unfoldable pub atomFields : List ℕ → List Token → List Token
-atomFields [] rest = ended rest
-atomFields (x ∷ xs) rest = Number (suc x) ∷ atomFields xs rest
+unfoldable pub atom_fields : List ℕ → List Token → List Token
+atom_fields [] rest = ended rest
+atom_fields (x ∷ xs) rest = Number (suc x) ∷ atom_fields xs rest
 
-unfoldable pub literalField : Literal → Token
-literalField l = cond l.negative (Negative (suc l.variable)) (Number (suc l.variable))
+unfoldable pub literal_field : Literal → Token
+literal_field l = cond l.negative (Negative (suc l.variable)) (Number (suc l.variable))
 
-unfoldable pub clauseFields : Clause → List Token → List Token
-clauseFields [] rest = ended rest
-clauseFields (l ∷ c) rest = literalField l ∷ clauseFields c rest
+unfoldable pub clause_fields : Clause → List Token → List Token
+clause_fields [] rest = ended rest
+clause_fields (l ∷ c) rest = literal_field l ∷ clause_fields c rest
 
 -- clauses, and nothing behind them
-unfoldable pub clausesFields : List Clause → List Token
-clausesFields [] = []
-clausesFields (c ∷ cs) = clauseFields c (clausesFields cs)
+unfoldable pub clauses_fields : List Clause → List Token
+clauses_fields [] = []
+clauses_fields (c ∷ cs) = clause_fields c (clauses_fields cs)
 
-unfoldable pub blockField : Bool → Token
-blockField d = cond d Exists Forall
+unfoldable pub block_field : Bool → Token
+block_field d = cond d Exists Forall
 
-unfoldable pub blocksFields : List Block → List Token → List Token
-blocksFields [] rest = rest
-blocksFields (b ∷ bs) rest = blockField b.exists ∷ atomFields b.atoms (blocksFields bs rest)
+unfoldable pub blocks_fields : List Block → List Token → List Token
+blocks_fields [] rest = rest
+blocks_fields (b ∷ bs) rest = block_field b.exists ∷ atom_fields b.atoms (blocks_fields bs rest)
 
 -- the problem line, the quantified sets, the clauses
 unfoldable pub page : Question → List Token
 page q =
     Problem ∷ Format ∷ Number q.variables ∷ Number (length q.clauses) ∷ Line
-    ∷ blocksFields q.blocks (clausesFields q.clauses)
+    ∷ blocks_fields q.blocks (clauses_fields q.clauses)
 
 -- a text that is the question q: comment lines, and then its fields
 pub record Written (q : Question) (text : List ℕ) : Type 0 where
-  pub fields : tokens (behindComments false text) ≡ page q
+  pub fields : tokens (behind_comments false text) ≡ page q
   pub proper : Proper q
 
 -- well formed: a question's text

@@ -1,7 +1,7 @@
 -- What the fields of a text say row by row: whether atoms are quantified once and occur, the codes of the clauses, the words of the blocks. Assumes nothing.
 use Rattle.std.specs.Prelude.{ℕ, ◌-◌, ◌*◌, ◌^◌, Bool, true, false, not, cond, ◌&&◌, ◌||◌, List, [], ◌∷◌, ◌≡◌, eqb, leb, ltb}
 use Rattle.std.specs.Int.Bits.{bit_or}
-use Rattle.dimacs.specs.Shape.{number_of, variableOf, mark_of, in_range}
+use Rattle.dimacs.specs.Shape.{number_of, variable_of, mark_of, in_range}
 use Rattle.dimacs.specs.declared.token.Token.{Token}
 use Rattle.dimacs.specs.declared.token.Token.TheVariants.{Line, Problem, Format, Exists, Forall, Number, Negative, Other}
 
@@ -12,57 +12,57 @@ header = 0
 abbrev pub block_row : ℕ
 block_row = 1
 
-abbrev pub clauseRow : ℕ
-clauseRow = 2
+abbrev pub clause_row : ℕ
+clause_row = 2
 
 -- e and a begin a block's row; at a line's end a clause's row begins, until the next field says otherwise
-unfoldable pub rowAfter : ℕ → Token → ℕ
-rowAfter row t = cond (leb 4 (mark_of t)) block_row (cond (eqb (mark_of t) 1) clauseRow row)
+unfoldable pub row_after : ℕ → Token → ℕ
+row_after row t = cond (leb 4 (mark_of t)) block_row (cond (eqb (mark_of t) 1) clause_row row)
 
 -- ---- atoms
 
 -- the variable v, from 1 on, stands in a row of that kind
 unfoldable pub mentions : ℕ → ℕ → ℕ → List Token → Bool
 mentions kind v row [] = false
-mentions kind v row (t ∷ ts) = (eqb row kind && eqb (variableOf t) v) || mentions kind v (rowAfter row t) ts
+mentions kind v row (t ∷ ts) = (eqb row kind && eqb (variable_of t) v) || mentions kind v (row_after row t) ts
 
 -- this atom stands in no later block's row, and in a clause's
-abbrev pub properAtom : ℕ → ℕ → List Token → Bool
-properAtom v row ts = not (mentions block_row v row ts) && mentions clauseRow v row ts
+abbrev pub proper_atom : ℕ → ℕ → List Token → Bool
+proper_atom v row ts = not (mentions block_row v row ts) && mentions clause_row v row ts
 
-unfoldable pub properAtoms : ℕ → List Token → Bool
-properAtoms row [] = true
-properAtoms row (t ∷ ts) =
-    cond (eqb row block_row && ltb 0 (number_of t)) (properAtom (number_of t) (rowAfter row t) ts) true
-    && properAtoms (rowAfter row t) ts
+unfoldable pub proper_atoms : ℕ → List Token → Bool
+proper_atoms row [] = true
+proper_atoms row (t ∷ ts) =
+    cond (eqb row block_row && ltb 0 (number_of t)) (proper_atom (number_of t) (row_after row t) ts) true
+    && proper_atoms (row_after row t) ts
 
 -- ---- clauses
 
 -- the code of a literal (prenex: 2 x + 1 and 2 x + 2), whose variable here is x + 1; 0 for a line's 0
-unfoldable pub codeOfField : Token → ℕ
-codeOfField Line = 0
-codeOfField Problem = 0
-codeOfField Format = 0
-codeOfField Exists = 0
-codeOfField Forall = 0
-codeOfField (Number n) = cond (in_range 32 n) (2 * n - 1) 0
-codeOfField (Negative n) = cond (in_range 32 n) (2 * n) 0
-codeOfField Other = 0
+unfoldable pub code_of_field : Token → ℕ
+code_of_field Line = 0
+code_of_field Problem = 0
+code_of_field Format = 0
+code_of_field Exists = 0
+code_of_field Forall = 0
+code_of_field (Number n) = cond (in_range 32 n) (2 * n - 1) 0
+code_of_field (Negative n) = cond (in_range 32 n) (2 * n) 0
+code_of_field Other = 0
 
-unfoldable pub codesFrom : ℕ → List Token → List ℕ
-codesFrom row [] = []
-codesFrom row (t ∷ ts) =
-    cond (eqb row clauseRow && eqb (mark_of t) 0) (codeOfField t ∷ codesFrom (rowAfter row t) ts) (codesFrom (rowAfter row t) ts)
+unfoldable pub codes_from : ℕ → List Token → List ℕ
+codes_from row [] = []
+codes_from row (t ∷ ts) =
+    cond (eqb row clause_row && eqb (mark_of t) 0) (code_of_field t ∷ codes_from (row_after row t) ts) (codes_from (row_after row t) ts)
 
 -- ---- blocks
 
-unfoldable pub withAtom : ℕ → ℕ → ℕ
-withAtom word n = cond (in_range 32 n) (bit_or word (2 ^ (n - 1))) word
+unfoldable pub with_atom : ℕ → ℕ → ℕ
+with_atom word n = cond (in_range 32 n) (bit_or word (2 ^ (n - 1))) word
 
 -- word: the atoms of the block that the row has so far
-unfoldable pub wordsFrom : ℕ → ℕ → List Token → List ℕ
-wordsFrom row word [] = []
-wordsFrom row word (t ∷ ts) =
+unfoldable pub words_from : ℕ → ℕ → List Token → List ℕ
+words_from row word [] = []
+words_from row word (t ∷ ts) =
     cond (eqb row block_row)
-    (cond (eqb (mark_of t) 1) (word ∷ wordsFrom (rowAfter row t) 0 ts) (wordsFrom (rowAfter row t) (withAtom word (number_of t)) ts))
-    (wordsFrom (rowAfter row t) word ts)
+    (cond (eqb (mark_of t) 1) (word ∷ words_from (row_after row t) 0 ts) (words_from (row_after row t) (with_atom word (number_of t)) ts))
+    (words_from (row_after row t) word ts)

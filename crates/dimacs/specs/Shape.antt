@@ -20,15 +20,15 @@ number_of (Negative n) = 0
 number_of Other = 0
 
 -- the variable of a literal, from 1 on, and 0 for other fields
-unfoldable pub variableOf : Token → ℕ
-variableOf Line = 0
-variableOf Problem = 0
-variableOf Format = 0
-variableOf Exists = 0
-variableOf Forall = 0
-variableOf (Number n) = n
-variableOf (Negative n) = n
-variableOf Other = 0
+unfoldable pub variable_of : Token → ℕ
+variable_of Line = 0
+variable_of Problem = 0
+variable_of Format = 0
+variable_of Exists = 0
+variable_of Forall = 0
+variable_of (Number n) = n
+variable_of (Negative n) = n
+variable_of Other = 0
 
 unfoldable pub is_zero : Token → Bool
 is_zero Line = false
@@ -67,53 +67,53 @@ abbrev pub expect : State → Bool → Phase → State
 expect s ok p = cond ok (into s p) (broken s)
 
 -- a block begins, of the kind 1 (exists) or 2 (forall), and not of the kind of the block before
-abbrev pub blockStart : State → ℕ → State
-blockStart s d = cond (eqb s.last d) (broken s) (record { phase = AtFirstAtom; variables = s.variables; left = s.left; last = d })
+abbrev pub block_start : State → ℕ → State
+block_start s d = cond (eqb s.last d) (broken s) (record { phase = AtFirstAtom; variables = s.variables; left = s.left; last = d })
 
 -- a clause begins, where some are left
-abbrev pub clauseStart : State → Token → State
-clauseStart s t = expect s (ltb 0 s.left && in_range s.variables (variableOf t)) AtLiteral
+abbrev pub clause_start : State → Token → State
+clause_start s t = expect s (ltb 0 s.left && in_range s.variables (variable_of t)) AtLiteral
 
 -- the first clause follows no forall
-abbrev pub rowStart : State → Token → State
-rowStart s t =
-    cond (eqb (mark_of t) 4) (blockStart s 1)
-    (cond (eqb (mark_of t) 5) (blockStart s 2)
-    (cond (eqb s.last 2) (broken s) (clauseStart s t)))
+abbrev pub row_start : State → Token → State
+row_start s t =
+    cond (eqb (mark_of t) 4) (block_start s 1)
+    (cond (eqb (mark_of t) 5) (block_start s 2)
+    (cond (eqb s.last 2) (broken s) (clause_start s t)))
 
-abbrev pub atVariables : State → ℕ → State
-atVariables s n = cond (eqb n 0) (broken s) (record { phase = AtCount; variables = n; left = s.left; last = s.last })
+abbrev pub at_variables : State → ℕ → State
+at_variables s n = cond (eqb n 0) (broken s) (record { phase = AtCount; variables = n; left = s.left; last = s.last })
 
-abbrev pub atCount : State → ℕ → State
-atCount s n = cond (eqb n 0) (broken s) (record { phase = AtHeaderEnd; variables = s.variables; left = n; last = s.last })
+abbrev pub at_count : State → ℕ → State
+at_count s n = cond (eqb n 0) (broken s) (record { phase = AtHeaderEnd; variables = s.variables; left = n; last = s.last })
 
-abbrev pub atAtom : State → Token → State
-atAtom s t = cond (is_zero t) (into s AtBlockEnd) (expect s (in_range s.variables (number_of t)) AtAtom)
+abbrev pub at_atom : State → Token → State
+at_atom s t = cond (is_zero t) (into s AtBlockEnd) (expect s (in_range s.variables (number_of t)) AtAtom)
 
-abbrev pub atLiteral : State → Token → State
-atLiteral s t = cond (is_zero t) (into s AtClauseEnd) (expect s (in_range s.variables (variableOf t)) AtLiteral)
+abbrev pub at_literal : State → Token → State
+at_literal s t = cond (is_zero t) (into s AtClauseEnd) (expect s (in_range s.variables (variable_of t)) AtLiteral)
 
-abbrev pub atClauseEnd : State → ℕ → State
-atClauseEnd s mark =
+abbrev pub at_clause_end : State → ℕ → State
+at_clause_end s mark =
     cond (ltb 0 s.left && eqb mark 1) (record { phase = AtClause; variables = s.variables; left = s.left - 1; last = s.last }) (broken s)
 
-unfoldable pub stepIn : Phase → State → Token → State
-stepIn AtProblem s t = expect s (eqb (mark_of t) 2) AtFormat
-stepIn AtFormat s t = expect s (eqb (mark_of t) 3) AtVariables
-stepIn AtVariables s t = atVariables s (number_of t)
-stepIn AtCount s t = atCount s (number_of t)
-stepIn AtHeaderEnd s t = expect s (eqb (mark_of t) 1) AtRow
-stepIn AtRow s t = rowStart s t
-stepIn AtFirstAtom s t = expect s (in_range s.variables (number_of t)) AtAtom
-stepIn AtAtom s t = atAtom s t
-stepIn AtBlockEnd s t = expect s (eqb (mark_of t) 1) AtRow
-stepIn AtClause s t = clauseStart s t
-stepIn AtLiteral s t = atLiteral s t
-stepIn AtClauseEnd s t = atClauseEnd s (mark_of t)
-stepIn Broken s t = s
+unfoldable pub step_in : Phase → State → Token → State
+step_in AtProblem s t = expect s (eqb (mark_of t) 2) AtFormat
+step_in AtFormat s t = expect s (eqb (mark_of t) 3) AtVariables
+step_in AtVariables s t = at_variables s (number_of t)
+step_in AtCount s t = at_count s (number_of t)
+step_in AtHeaderEnd s t = expect s (eqb (mark_of t) 1) AtRow
+step_in AtRow s t = row_start s t
+step_in AtFirstAtom s t = expect s (in_range s.variables (number_of t)) AtAtom
+step_in AtAtom s t = at_atom s t
+step_in AtBlockEnd s t = expect s (eqb (mark_of t) 1) AtRow
+step_in AtClause s t = clause_start s t
+step_in AtLiteral s t = at_literal s t
+step_in AtClauseEnd s t = at_clause_end s (mark_of t)
+step_in Broken s t = s
 
 unfoldable pub step : State → Token → State
-step s t = stepIn s.phase s t
+step s t = step_in s.phase s t
 
 unfoldable pub run : State → List Token → State
 run s [] = s

@@ -10,8 +10,8 @@ use borrow.Author.Tests.{lt-ltb, le-leb, ltb-true, leb-true, eqb-true, ne_eqb}
 use Rattle.words.specs.Logic.{by_bool, clash, and_both, and_intro, tests}
 use Rattle.prenex.specs.Question.{Literal, Block, Clause, Question, Every, every-none, every_one, SomeBelow, Alternating, no_block, innermost, outer, Proper}
 use Rattle.prenex.specs.CodeLaws.{alternating-inside}
-use Rattle.dimacs.specs.Page.{atomFields, literalField, clauseFields, clausesFields, blockField, blocksFields, page}
-use Rattle.dimacs.specs.Shape.{number_of, variableOf, is_zero, mark_of, in_range, broken, blockStart, clauseStart, rowStart, stepIn, step, run, start, finished, whole}
+use Rattle.dimacs.specs.Page.{atom_fields, literal_field, clause_fields, clauses_fields, block_field, blocks_fields, page}
+use Rattle.dimacs.specs.Shape.{number_of, variable_of, is_zero, mark_of, in_range, broken, block_start, clause_start, row_start, step_in, step, run, start, finished, whole}
 use Rattle.dimacs.specs.declared.token.Token.{Token}
 use Rattle.dimacs.specs.declared.token.Token.TheVariants.{Line, Problem, Format, Exists, Forall, Number, Negative, Other}
 use Rattle.dimacs.specs.declared.shape.Phase.{Phase}
@@ -25,8 +25,8 @@ pub record Shaped (q : Question) : Type 0 where
   pub blocks-below : Every (λ (b : Block). SomeBelow (λ (x : ℕ). x) q.variables b.atoms) q.blocks
   pub alternating : Alternating q.blocks
 
-pub proper-shaped : {q : Question} → Proper q → Shaped q
-proper-shaped p = record { some-clause = p.some-clause; clauses-below = p.clauses-below; blocks-below = p.blocks-below; alternating = p.alternating }
+pub proper_shaped : {q : Question} → Proper q → Shaped q
+proper_shaped p = record { some-clause = p.some-clause; clauses-below = p.clauses-below; blocks-below = p.blocks-below; alternating = p.alternating }
 
 abbrev LiteralsBelow : ℕ → Clause → Type 0
 LiteralsBelow v c = Every (λ (l : Literal). l.variable < v) c
@@ -89,16 +89,16 @@ follows-alternating {b} (one_follows {c} e) a = outer (other b.exists c.exists e
 -- ---- what a test shows of a field
 
 -- the field that has a mark
-ofMark : ℕ → Token
-ofMark zero = Other
-ofMark (suc zero) = Line
-ofMark (suc (suc zero)) = Problem
-ofMark (suc (suc (suc zero))) = Format
-ofMark (suc (suc (suc (suc zero)))) = Exists
-ofMark (suc (suc (suc (suc (suc n))))) = Forall
+of_mark : ℕ → Token
+of_mark zero = Other
+of_mark (suc zero) = Line
+of_mark (suc (suc zero)) = Problem
+of_mark (suc (suc (suc zero))) = Format
+of_mark (suc (suc (suc (suc zero)))) = Exists
+of_mark (suc (suc (suc (suc (suc n))))) = Forall
 
-marked : (t : Token) → 0 < mark_of t → t ≡ ofMark (mark_of t)
-unfolding mark_of ofMark
+marked : (t : Token) → 0 < mark_of t → t ≡ of_mark (mark_of t)
+unfolding mark_of of_mark
 marked Line h = refl
 marked Problem h = refl
 marked Format h = refl
@@ -108,8 +108,8 @@ marked (Number n) h = absurd (omega arith)
 marked (Negative n) h = absurd (omega arith)
 marked Other h = absurd (omega arith)
 
-mark-is : (t : Token) (m : ℕ) → eqb (mark_of t) (suc m) ≡ true → t ≡ ofMark (suc m)
-mark-is t m e = let k = eqb-true (mark_of t) (suc m) e in marked t (omega (arith, k)) ∙ ap ofMark k
+mark-is : (t : Token) (m : ℕ) → eqb (mark_of t) (suc m) ≡ true → t ≡ of_mark (suc m)
+mark-is t m e = let k = eqb-true (mark_of t) (suc m) e in marked t (omega (arith, k)) ∙ ap of_mark k
 
 zero_is : (t : Token) → is_zero t ≡ true → t ≡ Number 0
 unfolding is_zero
@@ -134,8 +134,8 @@ number_is (Negative n) h = absurd (omega arith)
 number_is Other h = absurd (omega arith)
 
 -- a field that names a variable is a literal
-literal-of : (t : Token) → 0 < variableOf t → (b : Bool) × (t ≡ literalField (record { negative = b; variable = variableOf t - 1 }))
-unfolding variableOf literalField
+literal-of : (t : Token) → 0 < variable_of t → (b : Bool) × (t ≡ literal_field (record { negative = b; variable = variable_of t - 1 }))
+unfolding variable_of literal_field
 literal-of Line h = absurd (omega arith)
 literal-of Problem h = absurd (omega arith)
 literal-of Format h = absurd (omega arith)
@@ -153,117 +153,117 @@ in-range v n e =
 
 -- ---- a page of the right shape is accepted
 
-range-in : (v n : ℕ) → n < v → in_range v (suc n) ≡ true
-range-in v n h = and_intro (ltb 0 (suc n)) (leb (suc n) v) (lt-ltb 0 (suc n) (omega arith)) (le-leb (suc n) v h)
+range_in : (v n : ℕ) → n < v → in_range v (suc n) ≡ true
+range_in v n h = and_intro (ltb 0 (suc n)) (leb (suc n) v) (lt-ltb 0 (suc n) (omega arith)) (le-leb (suc n) v h)
 
-pub literal-variable : (l : Literal) → variableOf (literalField l) ≡ suc l.variable
-unfolding variableOf literalField
+pub literal-variable : (l : Literal) → variable_of (literal_field l) ≡ suc l.variable
+unfolding variable_of literal_field
 literal-variable l = by_bool l.negative (λ e. rw e refl) (λ e. rw e refl)
 
 some_number : (n : ℕ) → 1 ≤ n → eqb n 0 ≡ false
 some_number n h = ne_eqb n 0 (λ e. absurd (omega (arith, e)))
 
-literal-some : (l : Literal) → is_zero (literalField l) ≡ false
-unfolding is_zero literalField
+literal-some : (l : Literal) → is_zero (literal_field l) ≡ false
+unfolding is_zero literal_field
 literal-some l = by_bool l.negative (λ e. rw e refl) (λ e. rw e (some_number (suc l.variable) (omega arith)))
 
-pub literal-mark : (l : Literal) → mark_of (literalField l) ≡ 0
-unfolding mark_of literalField
-literal-mark l = by_bool l.negative (λ e. rw e refl) (λ e. rw e refl)
+pub literal_mark : (l : Literal) → mark_of (literal_field l) ≡ 0
+unfolding mark_of literal_field
+literal_mark l = by_bool l.negative (λ e. rw e refl) (λ e. rw e refl)
 
 module _ (v n d : ℕ) where
-  first-literal : (l : Literal) → l.variable < v → 1 ≤ n → step (at AtClause v n d) (literalField l) ≡ at AtLiteral v n d
-  unfolding step stepIn
-  first-literal l k h = rw (lt-ltb 0 n h, literal-variable l, range-in v l.variable k) refl
+  first-literal : (l : Literal) → l.variable < v → 1 ≤ n → step (at AtClause v n d) (literal_field l) ≡ at AtLiteral v n d
+  unfolding step step_in
+  first-literal l k h = rw (lt-ltb 0 n h, literal-variable l, range_in v l.variable k) refl
 
-  row-literal : (l : Literal) → l.variable < v → 1 ≤ n → eqb d 2 ≡ false → step (at AtRow v n d) (literalField l) ≡ at AtLiteral v n d
-  unfolding step stepIn
-  row-literal l k h e = rw (literal-mark l, e, lt-ltb 0 n h, literal-variable l, range-in v l.variable k) refl
+  row_literal : (l : Literal) → l.variable < v → 1 ≤ n → eqb d 2 ≡ false → step (at AtRow v n d) (literal_field l) ≡ at AtLiteral v n d
+  unfolding step step_in
+  row_literal l k h e = rw (literal_mark l, e, lt-ltb 0 n h, literal-variable l, range_in v l.variable k) refl
 
-  next-literal : (l : Literal) → l.variable < v → step (at AtLiteral v n d) (literalField l) ≡ at AtLiteral v n d
-  unfolding step stepIn
-  next-literal l k = rw (literal-some l, literal-variable l, range-in v l.variable k) refl
+  next-literal : (l : Literal) → l.variable < v → step (at AtLiteral v n d) (literal_field l) ≡ at AtLiteral v n d
+  unfolding step step_in
+  next-literal l k = rw (literal-some l, literal-variable l, range_in v l.variable k) refl
 
   clause-ends : 1 ≤ n → step (at AtClauseEnd v n d) Line ≡ at AtClause v (n - 1) d
-  unfolding step stepIn mark_of
+  unfolding step step_in mark_of
   clause-ends h = rw (lt-ltb 0 n h) refl
 
-  first-atom : (x : ℕ) → x < v → step (at AtFirstAtom v n d) (Number (suc x)) ≡ at AtAtom v n d
-  unfolding step stepIn number_of
-  first-atom x k = rw (range-in v x k) refl
+  first_atom : (x : ℕ) → x < v → step (at AtFirstAtom v n d) (Number (suc x)) ≡ at AtAtom v n d
+  unfolding step step_in number_of
+  first_atom x k = rw (range_in v x k) refl
 
-  next-atom : (x : ℕ) → x < v → step (at AtAtom v n d) (Number (suc x)) ≡ at AtAtom v n d
-  unfolding step stepIn number_of is_zero
-  next-atom x k = rw (some_number (suc x) (omega arith), range-in v x k) refl
+  next_atom : (x : ℕ) → x < v → step (at AtAtom v n d) (Number (suc x)) ≡ at AtAtom v n d
+  unfolding step step_in number_of is_zero
+  next_atom x k = rw (some_number (suc x) (omega arith), range_in v x k) refl
 
-  kind-starts : (b : Bool) → eqb d (cond b 1 2) ≡ false → step (at AtRow v n d) (blockField b) ≡ at AtFirstAtom v n (cond b 1 2)
-  unfolding step stepIn blockField mark_of
-  kind-starts true e = rw e refl
-  kind-starts false e = rw e refl
+  kind_starts : (b : Bool) → eqb d (cond b 1 2) ≡ false → step (at AtRow v n d) (block_field b) ≡ at AtFirstAtom v n (cond b 1 2)
+  unfolding step step_in block_field mark_of
+  kind_starts true e = rw e refl
+  kind_starts false e = rw e refl
 
   variables-told : (k : ℕ) → 1 ≤ k → step (at AtVariables v n d) (Number k) ≡ at AtCount k n d
-  unfolding step stepIn number_of
+  unfolding step step_in number_of
   variables-told k h = rw (some_number k h) refl
 
   count-told : (k : ℕ) → 1 ≤ k → step (at AtCount v n d) (Number k) ≡ at AtHeaderEnd v k d
-  unfolding step stepIn number_of
+  unfolding step step_in number_of
   count-told k h = rw (some_number k h) refl
 
 module _ (v n d : ℕ) where
   literals-run : (c : Clause) (rest : List Token) → LiteralsBelow v c → 1 ≤ n
-      → run (at AtLiteral v n d) (clauseFields c rest) ≡ run (at AtClause v (n - 1) d) rest
-  unfolding run step stepIn clauseFields is_zero
+      → run (at AtLiteral v n d) (clause_fields c rest) ≡ run (at AtClause v (n - 1) d) rest
+  unfolding run step step_in clause_fields is_zero
   literals-run [] rest every-none h = ap (λ (s : State). run s rest) (clause-ends v n d h)
   literals-run (l ∷ c) rest (every_one k ks) h =
-      ap (λ (s : State). run s (clauseFields c rest)) (next-literal v n d l k) ∙ literals-run c rest ks h
+      ap (λ (s : State). run s (clause_fields c rest)) (next-literal v n d l k) ∙ literals-run c rest ks h
 
   -- a clause, from a state that takes its first literal
-  clause-run : (s : State) → ((l : Literal) → l.variable < v → step s (literalField l) ≡ at AtLiteral v n d)
+  clause_run : (s : State) → ((l : Literal) → l.variable < v → step s (literal_field l) ≡ at AtLiteral v n d)
       → (c : Clause) (rest : List Token) → 1 ≤ length c → LiteralsBelow v c → 1 ≤ n
-      → run s (clauseFields c rest) ≡ run (at AtClause v (n - 1) d) rest
-  unfolding run clauseFields
-  clause-run s f [] rest i every-none h = absurd (omega arith)
-  clause-run s f (l ∷ c) rest i (every_one k ks) h =
-      ap (λ (r : State). run r (clauseFields c rest)) (f l k) ∙ literals-run c rest ks h
+      → run s (clause_fields c rest) ≡ run (at AtClause v (n - 1) d) rest
+  unfolding run clause_fields
+  clause_run s f [] rest i every-none h = absurd (omega arith)
+  clause_run s f (l ∷ c) rest i (every_one k ks) h =
+      ap (λ (r : State). run r (clause_fields c rest)) (f l k) ∙ literals-run c rest ks h
 
   atoms-run : (xs : List ℕ) (rest : List Token) → AtomsBelow v xs
-      → run (at AtAtom v n d) (atomFields xs rest) ≡ run (at AtRow v n d) rest
-  unfolding run step stepIn atomFields is_zero mark_of
+      → run (at AtAtom v n d) (atom_fields xs rest) ≡ run (at AtRow v n d) rest
+  unfolding run step step_in atom_fields is_zero mark_of
   atoms-run [] rest every-none = refl
-  atoms-run (x ∷ xs) rest (every_one k ks) = ap (λ (s : State). run s (atomFields xs rest)) (next-atom v n d x k) ∙ atoms-run xs rest ks
+  atoms-run (x ∷ xs) rest (every_one k ks) = ap (λ (s : State). run s (atom_fields xs rest)) (next_atom v n d x k) ∙ atoms-run xs rest ks
 
   block_run : (xs : List ℕ) (rest : List Token) → 1 ≤ length xs → AtomsBelow v xs
-      → run (at AtFirstAtom v n d) (atomFields xs rest) ≡ run (at AtRow v n d) rest
-  unfolding run atomFields
+      → run (at AtFirstAtom v n d) (atom_fields xs rest) ≡ run (at AtRow v n d) rest
+  unfolding run atom_fields
   block_run [] rest i every-none = absurd (omega arith)
-  block_run (x ∷ xs) rest i (every_one k ks) = ap (λ (s : State). run s (atomFields xs rest)) (first-atom v n d x k) ∙ atoms-run xs rest ks
+  block_run (x ∷ xs) rest i (every_one k ks) = ap (λ (s : State). run s (atom_fields xs rest)) (first_atom v n d x k) ∙ atoms-run xs rest ks
 
 module _ (v : ℕ) where
-  clauses-run : (n d : ℕ) (cs : List Clause) → length cs ≡ n → ClausesBelow v cs → run (at AtClause v n d) (clausesFields cs) ≡ at AtClause v 0 d
-  unfolding run clausesFields
+  clauses-run : (n d : ℕ) (cs : List Clause) → length cs ≡ n → ClausesBelow v cs → run (at AtClause v n d) (clauses_fields cs) ≡ at AtClause v 0 d
+  unfolding run clauses_fields
   clauses-run n d [] e every-none = ap (λ (k : ℕ). at AtClause v k d) (sym e)
   clauses-run n d (c ∷ cs) e (every_one k ks) =
-      clause-run v n d (at AtClause v n d) (λ l i. first-literal v n d l i (omega (arith, e))) c (clausesFields cs) k.some k.below (omega (arith, e))
+      clause_run v n d (at AtClause v n d) (λ l i. first-literal v n d l i (omega (arith, e))) c (clauses_fields cs) k.some k.below (omega (arith, e))
       ∙ clauses-run (n - 1) d cs (omega (arith, e)) ks
 
   -- the first clause, where a block could be
   matrix-run : (n d : ℕ) (cs : List Clause) → eqb d 2 ≡ false → 1 ≤ n → length cs ≡ n → ClausesBelow v cs
-      → run (at AtRow v n d) (clausesFields cs) ≡ at AtClause v 0 d
-  unfolding clausesFields
+      → run (at AtRow v n d) (clauses_fields cs) ≡ at AtClause v 0 d
+  unfolding clauses_fields
   matrix-run n d [] f h e every-none = absurd (omega (arith, h, e))
   matrix-run n d (c ∷ cs) f h e (every_one k ks) =
-      clause-run v n d (at AtRow v n d) (λ l i. row-literal v n d l i h f) c (clausesFields cs) k.some k.below h
+      clause_run v n d (at AtRow v n d) (λ l i. row_literal v n d l i h f) c (clauses_fields cs) k.some k.below h
       ∙ clauses-run (n - 1) d cs (omega (arith, e)) ks
 
   blocks-run : (n d : ℕ) (bs : List Block) (cs : List Clause) → Follows d bs → Alternating bs → BlocksBelow v bs → 1 ≤ n → length cs ≡ n → ClausesBelow v cs
-      → (k : ℕ) × (run (at AtRow v n d) (blocksFields bs (clausesFields cs)) ≡ at AtClause v 0 k)
-  unfolding run blocksFields
+      → (k : ℕ) × (run (at AtRow v n d) (blocks_fields bs (clauses_fields cs)) ≡ at AtClause v 0 k)
+  unfolding run blocks_fields
   blocks-run n d [] cs (none-follows f) a every-none h e k = (d, matrix-run n d cs f h e k)
   blocks-run n d (b ∷ bs) cs (one_follows f) a (every_one i is) h e k =
-      let rest = blocksFields bs (clausesFields cs) in
+      let rest = blocks_fields bs (clauses_fields cs) in
       let r = blocks-run n (kind_of b) bs cs (alternating-follows a) (alternating-inside a) is h e k in (
         r.0,
-        ap (λ (s : State). run s (atomFields b.atoms rest)) (kind-starts v n d b.exists f)
+        ap (λ (s : State). run s (atom_fields b.atoms rest)) (kind_starts v n d b.exists f)
             ∙ block_run v n (kind_of b) b.atoms rest i.some i.below
             ∙ r.1,
       )
@@ -278,11 +278,11 @@ some-variable {v} (c ∷ cs) h (every_one k ks) = literal c k.some k.below
     literal (l ∷ c) i (every_one b bs) = omega (arith, b)
 
 page-run : (q : Question) → Shaped q → (k : ℕ) × (run start (page q) ≡ at AtClause q.variables 0 k)
-unfolding run step stepIn mark_of page
+unfolding run step step_in mark_of page
 page-run q s =
     let v = q.variables in
     let n = length q.clauses in
-    let rest = blocksFields q.blocks (clausesFields q.clauses) in
+    let rest = blocks_fields q.blocks (clauses_fields q.clauses) in
     let r = blocks-run v n 0 q.blocks q.clauses (follows-none s.alternating) s.alternating s.blocks-below s.some-clause refl s.clauses-below in (
       r.0,
       ap (λ (a : State). run a (Number n ∷ Line ∷ rest)) (variables-told 0 0 0 v (some-variable q.clauses s.some-clause s.clauses-below))
@@ -298,7 +298,7 @@ page-whole q s = let r = page-run q s in (ap whole r.1, ap (λ (a : State). a.va
 
 -- Once broken, the machine stays so.
 broken-stays : (s : State) (ts : List Token) → whole (run (broken s) ts) ≡ false
-unfolding run step stepIn whole finished
+unfolding run step step_in whole finished
 broken-stays s [] = refl
 broken-stays s (t ∷ ts) = broken-stays s ts
 
@@ -328,7 +328,7 @@ record Clauses (v n : ℕ) (ts : List Token) : Type 0 where
   clauses : List Clause
   number : length clauses ≡ n
   below : ClausesBelow v clauses
-  fields : ts ≡ clausesFields clauses
+  fields : ts ≡ clauses_fields clauses
 
 -- the literals left of a clause, which is one of n
 record Literals (v n : ℕ) (ts : List Token) : Type 0 where
@@ -336,7 +336,7 @@ record Literals (v n : ℕ) (ts : List Token) : Type 0 where
   rest : List Token
   some : 1 ≤ n
   below : LiteralsBelow v literals
-  fields : ts ≡ clauseFields literals rest
+  fields : ts ≡ clause_fields literals rest
   behind : Clauses v (n - 1) rest
 
 record Rows (v n d : ℕ) (ts : List Token) : Type 0 where
@@ -346,7 +346,7 @@ record Rows (v n d : ℕ) (ts : List Token) : Type 0 where
   follows : Follows d blocks
   alternating : Alternating blocks
   below : BlocksBelow v blocks
-  fields : ts ≡ blocksFields blocks rest
+  fields : ts ≡ blocks_fields blocks rest
   behind : Clauses v n rest
 
 -- the atoms left of a block
@@ -354,7 +354,7 @@ record Atoms (v n d : ℕ) (ts : List Token) : Type 0 where
   atoms : List ℕ
   rest : List Token
   below : AtomsBelow v atoms
-  fields : ts ≡ atomFields atoms rest
+  fields : ts ≡ atom_fields atoms rest
   behind : Rows v n d rest
 
 -- one at least
@@ -387,7 +387,7 @@ From Broken v n d ts = ⊥
 
 -- behind the last field
 from-none : (p : Phase) (v n d : ℕ) → whole (at p v n d) ≡ true → From p v n d []
-unfolding whole finished From clausesFields
+unfolding whole finished From clauses_fields
 from-none AtProblem v n d h = clash false h refl
 from-none AtFormat v n d h = clash false h refl
 from-none AtVariables v n d h = clash false h refl
@@ -402,76 +402,76 @@ from-none AtLiteral v n d h = clash false h refl
 from-none AtClauseEnd v n d h = clash false h refl
 from-none Broken v n d h = clash false h refl
 
-cons-both : {t a : Token} {ts l : List Token} → t ≡ a → ts ≡ l → t ∷ ts ≡ a ∷ l
-cons-both = ap₂ {C = List Token} (λ (a : Token) (l : List Token). a ∷ l)
+cons_both : {t a : Token} {ts l : List Token} → t ≡ a → ts ≡ l → t ∷ ts ≡ a ∷ l
+cons_both = ap₂ {C = List Token} (λ (a : Token) (l : List Token). a ∷ l)
 
 -- a field, found by its test, in front of what the others are
 module _ (t : Token) (ts : List Token) where
-  mark-found : (m : ℕ) (P : List Token → Type 0) → eqb (mark_of t) (suc m) ≡ true → P ts → Behind (ofMark (suc m)) P (t ∷ ts)
-  mark-found m P e h = record { rest = ts; fields = cons-both (mark-is t m e) refl; behind = h }
+  mark_found : (m : ℕ) (P : List Token → Type 0) → eqb (mark_of t) (suc m) ≡ true → P ts → Behind (of_mark (suc m)) P (t ∷ ts)
+  mark_found m P e h = record { rest = ts; fields = cons_both (mark-is t m e) refl; behind = h }
 
   number-found : (P : List Token → Type 0) → eqb (number_of t) 0 ≡ false → P ts → Behind (Number (number_of t)) P (t ∷ ts)
   number-found P e h =
-      record { rest = ts; fields = cons-both (number_is t (omega (tests, e))) refl; behind = h }
+      record { rest = ts; fields = cons_both (number_is t (omega (tests, e))) refl; behind = h }
 
-  literal-found : {v n : ℕ} → in_range v (variableOf t) ≡ true → Literals v n ts → SomeLiterals v n (t ∷ ts)
-  unfolding clauseFields
+  literal-found : {v n : ℕ} → in_range v (variable_of t) ≡ true → Literals v n ts → SomeLiterals v n (t ∷ ts)
+  unfolding clause_fields
   literal-found {v} e s =
-      let k = in-range v (variableOf t) e in
+      let k = in-range v (variable_of t) e in
       let b = literal-of t k.0 in (
         record {
-          literals = record { negative = b.0; variable = variableOf t - 1 } ∷ s.literals;
+          literals = record { negative = b.0; variable = variable_of t - 1 } ∷ s.literals;
           rest = s.rest;
           some = s.some;
           below = every_one k.1 s.below;
-          fields = cons-both b.1 s.fields;
+          fields = cons_both b.1 s.fields;
           behind = s.behind;
         },
         omega arith,
       )
 
-  atom-found : {v n d : ℕ} → in_range v (number_of t) ≡ true → Atoms v n d ts → SomeAtoms v n d (t ∷ ts)
-  unfolding atomFields
-  atom-found {v} e s =
+  atom_found : {v n d : ℕ} → in_range v (number_of t) ≡ true → Atoms v n d ts → SomeAtoms v n d (t ∷ ts)
+  unfolding atom_fields
+  atom_found {v} e s =
       let k = in-range v (number_of t) e in
       let i : t ≡ Number (suc (number_of t - 1)) = number_is t k.0 ∙ ap {B = Token} (λ (a : ℕ). Number a) (omega (arith, k.0)) in (
         record {
           atoms = (number_of t - 1) ∷ s.atoms;
           rest = s.rest;
           below = every_one k.1 s.below;
-          fields = cons-both i s.fields;
+          fields = cons_both i s.fields;
           behind = s.behind;
         },
         omega arith,
       )
 
   -- a 0 and the end of the line
-  clause-end-found : {v n : ℕ} → is_zero t ≡ true → (1 ≤ n) × Behind Line (Clauses v (n - 1)) ts → Literals v n (t ∷ ts)
-  unfolding clauseFields
-  clause-end-found e s =
+  clause_end_found : {v n : ℕ} → is_zero t ≡ true → (1 ≤ n) × Behind Line (Clauses v (n - 1)) ts → Literals v n (t ∷ ts)
+  unfolding clause_fields
+  clause_end_found e s =
       record {
         literals = [];
         rest = s.1.rest;
         some = s.0;
         below = every-none;
-        fields = cons-both (zero_is t e) s.1.fields;
+        fields = cons_both (zero_is t e) s.1.fields;
         behind = s.1.behind;
       }
 
-  block-end-found : {v n d : ℕ} → is_zero t ≡ true → Behind Line (Rows v n d) ts → Atoms v n d (t ∷ ts)
-  unfolding atomFields
-  block-end-found e s =
+  block_end_found : {v n d : ℕ} → is_zero t ≡ true → Behind Line (Rows v n d) ts → Atoms v n d (t ∷ ts)
+  unfolding atom_fields
+  block_end_found e s =
       record {
         atoms = [];
         rest = s.rest;
         below = every-none;
-        fields = cons-both (zero_is t e) s.fields;
+        fields = cons_both (zero_is t e) s.fields;
         behind = s.behind;
       }
 
-  block-found : {v n d : ℕ} (b : Bool) → t ≡ blockField b → eqb d (cond b 1 2) ≡ false → SomeAtoms v n (cond b 1 2) ts → Rows v n d (t ∷ ts)
-  unfolding blocksFields
-  block-found b e f s =
+  block_found : {v n d : ℕ} (b : Bool) → t ≡ block_field b → eqb d (cond b 1 2) ≡ false → SomeAtoms v n (cond b 1 2) ts → Rows v n d (t ∷ ts)
+  unfolding blocks_fields
+  block_found b e f s =
       let r = s.0.behind in
       record {
         blocks = record { exists = b; atoms = s.0.atoms } ∷ r.blocks;
@@ -480,23 +480,23 @@ module _ (t : Token) (ts : List Token) where
         follows = one_follows f;
         alternating = follows-alternating r.follows r.alternating;
         below = every_one (record { some = s.1; below = s.0.below }) r.below;
-        fields = cons-both e (s.0.fields ∙ ap (atomFields s.0.atoms) r.fields);
+        fields = cons_both e (s.0.fields ∙ ap (atom_fields s.0.atoms) r.fields);
         behind = r.behind;
       }
 
-clause-found : {v n : ℕ} {ts : List Token} → SomeLiterals v n ts → Clauses v n ts
-unfolding clausesFields
-clause-found s =
+clause_found : {v n : ℕ} {ts : List Token} → SomeLiterals v n ts → Clauses v n ts
+unfolding clauses_fields
+clause_found s =
     let r = s.0.behind in
     record {
       clauses = s.0.literals ∷ r.clauses;
       number = omega (arith, r.number, s.0.some);
       below = every_one (record { some = s.1; below = s.0.below }) r.below;
-      fields = s.0.fields ∙ ap (clauseFields s.0.literals) r.fields;
+      fields = s.0.fields ∙ ap (clause_fields s.0.literals) r.fields;
     }
 
 matrix-found : {v n d : ℕ} {ts : List Token} → eqb d 2 ≡ false → SomeLiterals v n ts → Rows v n d ts
-unfolding blocksFields
+unfolding blocks_fields
 matrix-found {ts = ts} e s =
     record {
       blocks = [];
@@ -506,7 +506,7 @@ matrix-found {ts = ts} e s =
       alternating = no_block;
       below = every-none;
       fields = refl;
-      behind = clause-found s;
+      behind = clause_found s;
     }
 
 -- what the fields from each phase on are
@@ -516,37 +516,37 @@ Found ts = (p : Phase) (v n d : ℕ) → whole (run (at p v n d) ts) ≡ true �
 -- one field more
 module _ (t : Token) (ts : List Token) (others : Found ts) (v n d : ℕ) where
   -- a clause's first literal, where a clause or a row begins
-  first_found : (p : Phase) → whole (run (clauseStart (at p v n d) t) ts) ≡ true → SomeLiterals v n (t ∷ ts)
+  first_found : (p : Phase) → whole (run (clause_start (at p v n d) t) ts) ≡ true → SomeLiterals v n (t ∷ ts)
   unfolding From
   first_found p h =
-      let k = passes (ltb 0 n && in_range v (variableOf t)) (at AtLiteral v n d) (at p v n d) ts h in
-      literal-found t ts (and_both (ltb 0 n) (in_range v (variableOf t)) k.0).1 (others AtLiteral v n d k.1)
+      let k = passes (ltb 0 n && in_range v (variable_of t)) (at AtLiteral v n d) (at p v n d) ts h in
+      literal-found t ts (and_both (ltb 0 n) (in_range v (variable_of t)) k.0).1 (others AtLiteral v n d k.1)
 
-  block-start-found : (b : Bool) → t ≡ blockField b → whole (run (blockStart (at AtRow v n d) (cond b 1 2)) ts) ≡ true → Rows v n d (t ∷ ts)
+  block_start-found : (b : Bool) → t ≡ block_field b → whole (run (block_start (at AtRow v n d) (cond b 1 2)) ts) ≡ true → Rows v n d (t ∷ ts)
   unfolding From
-  block-start-found b e h =
+  block_start-found b e h =
       let k = refuses (eqb d (cond b 1 2)) (at AtFirstAtom v n (cond b 1 2)) (at AtRow v n d) ts h in
-      block-found t ts b e k.0 (others AtFirstAtom v n (cond b 1 2) k.1)
+      block_found t ts b e k.0 (others AtFirstAtom v n (cond b 1 2) k.1)
 
-  row-found : whole (run (rowStart (at AtRow v n d) t) ts) ≡ true → Rows v n d (t ∷ ts)
-  unfolding blockField ofMark
-  row-found h =
+  row_found : whole (run (row_start (at AtRow v n d) t) ts) ≡ true → Rows v n d (t ∷ ts)
+  unfolding block_field of_mark
+  row_found h =
       let s = at AtRow v n d in
-      let c = cond (eqb d 2) (broken s) (clauseStart s t) in
-      either (eqb (mark_of t) 4) (blockStart s 1) (cond (eqb (mark_of t) 5) (blockStart s 2) c) ts h
-      (λ e. block-start-found true (mark-is t 3 e))
-      (λ _ i. either (eqb (mark_of t) 5) (blockStart s 2) c ts i
-      (λ e. block-start-found false (mark-is t 4 e))
-      (λ _ j. let k = refuses (eqb d 2) (clauseStart s t) s ts j in matrix-found k.0 (first_found AtRow k.1)))
+      let c = cond (eqb d 2) (broken s) (clause_start s t) in
+      either (eqb (mark_of t) 4) (block_start s 1) (cond (eqb (mark_of t) 5) (block_start s 2) c) ts h
+      (λ e. block_start-found true (mark-is t 3 e))
+      (λ _ i. either (eqb (mark_of t) 5) (block_start s 2) c ts i
+      (λ e. block_start-found false (mark-is t 4 e))
+      (λ _ j. let k = refuses (eqb d 2) (clause_start s t) s ts j in matrix-found k.0 (first_found AtRow k.1)))
 
   from_some : (p : Phase) → whole (run (step (at p v n d) t) ts) ≡ true → From p v n d (t ∷ ts)
-  unfolding step stepIn From ofMark
+  unfolding step step_in From of_mark
   from_some AtProblem h =
       let k = passes (eqb (mark_of t) 2) (at AtFormat v n d) (at AtProblem v n d) ts h in
-      mark-found t ts 1 (Behind Format (FromVariables d)) k.0 (others AtFormat v n d k.1)
+      mark_found t ts 1 (Behind Format (FromVariables d)) k.0 (others AtFormat v n d k.1)
   from_some AtFormat h =
       let k = passes (eqb (mark_of t) 3) (at AtVariables v n d) (at AtFormat v n d) ts h in
-      mark-found t ts 2 (FromVariables d) k.0 (others AtVariables v n d k.1)
+      mark_found t ts 2 (FromVariables d) k.0 (others AtVariables v n d k.1)
   from_some AtVariables h =
       let k = refuses (eqb (number_of t) 0) (at AtCount (number_of t) n d) (at AtVariables v n d) ts h in
       (number_of t, number-found t ts (FromCount (number_of t) d) k.0 (others AtCount (number_of t) n d k.1))
@@ -555,29 +555,29 @@ module _ (t : Token) (ts : List Token) (others : Found ts) (v n d : ℕ) where
       (number_of t, number-found t ts (Behind Line (Rows v (number_of t) d)) k.0 (others AtHeaderEnd v (number_of t) d k.1))
   from_some AtHeaderEnd h =
       let k = passes (eqb (mark_of t) 1) (at AtRow v n d) (at AtHeaderEnd v n d) ts h in
-      mark-found t ts 0 (Rows v n d) k.0 (others AtRow v n d k.1)
-  from_some AtRow h = row-found h
+      mark_found t ts 0 (Rows v n d) k.0 (others AtRow v n d k.1)
+  from_some AtRow h = row_found h
   from_some AtFirstAtom h =
       let k = passes (in_range v (number_of t)) (at AtAtom v n d) (at AtFirstAtom v n d) ts h in
-      atom-found t ts k.0 (others AtAtom v n d k.1)
+      atom_found t ts k.0 (others AtAtom v n d k.1)
   from_some AtAtom h =
       let s = at AtAtom v n d in
       either (is_zero t) (at AtBlockEnd v n d) (cond (in_range v (number_of t)) s (broken s)) ts h
-      (λ e i. block-end-found t ts e (others AtBlockEnd v n d i))
-      (λ _ i. let k = passes (in_range v (number_of t)) s s ts i in (atom-found t ts k.0 (others AtAtom v n d k.1)).0)
+      (λ e i. block_end_found t ts e (others AtBlockEnd v n d i))
+      (λ _ i. let k = passes (in_range v (number_of t)) s s ts i in (atom_found t ts k.0 (others AtAtom v n d k.1)).0)
   from_some AtBlockEnd h =
       let k = passes (eqb (mark_of t) 1) (at AtRow v n d) (at AtBlockEnd v n d) ts h in
-      mark-found t ts 0 (Rows v n d) k.0 (others AtRow v n d k.1)
-  from_some AtClause h = clause-found (first_found AtClause h)
+      mark_found t ts 0 (Rows v n d) k.0 (others AtRow v n d k.1)
+  from_some AtClause h = clause_found (first_found AtClause h)
   from_some AtLiteral h =
       let s = at AtLiteral v n d in
-      either (is_zero t) (at AtClauseEnd v n d) (cond (in_range v (variableOf t)) s (broken s)) ts h
-      (λ e i. clause-end-found t ts e (others AtClauseEnd v n d i))
-      (λ _ i. let k = passes (in_range v (variableOf t)) s s ts i in (literal-found t ts k.0 (others AtLiteral v n d k.1)).0)
+      either (is_zero t) (at AtClauseEnd v n d) (cond (in_range v (variable_of t)) s (broken s)) ts h
+      (λ e i. clause_end_found t ts e (others AtClauseEnd v n d i))
+      (λ _ i. let k = passes (in_range v (variable_of t)) s s ts i in (literal-found t ts k.0 (others AtLiteral v n d k.1)).0)
   from_some AtClauseEnd h =
       let k = passes (ltb 0 n && eqb (mark_of t) 1) (at AtClause v (n - 1) d) (at AtClauseEnd v n d) ts h in
       let i = and_both (ltb 0 n) (eqb (mark_of t) 1) k.0 in
-      (ltb-true 0 n i.0, mark-found t ts 0 (Clauses v (n - 1)) i.1 (others AtClause v (n - 1) d k.1))
+      (ltb-true 0 n i.0, mark_found t ts 0 (Clauses v (n - 1)) i.1 (others AtClause v (n - 1) d k.1))
   from_some Broken h = clash (whole (run (at Broken v n d) ts)) h (broken-stays (at Broken v n d) ts)
 
 from : (ts : List Token) → Found ts
@@ -586,15 +586,15 @@ from [] p v n d h = from-none p v n d h
 from (t ∷ ts) p v n d h = from_some t ts (from ts) v n d p h
 
 -- a problem line, and rows behind it
-page-of : {v n d : ℕ} {ts rest : List Token} → ts ≡ Problem ∷ Format ∷ Number v ∷ Number n ∷ Line ∷ rest → Rows v n d rest
+page_of : {v n d : ℕ} {ts rest : List Token} → ts ≡ Problem ∷ Format ∷ Number v ∷ Number n ∷ Line ∷ rest → Rows v n d rest
     → (q : Question) × Shaped q × (ts ≡ page q)
 unfolding page
-page-of {v} {n} {d} {ts} {rest} e r =
+page_of {v} {n} {d} {ts} {rest} e r =
     let m = r.behind in (
       record { variables = v; blocks = r.blocks; clauses = m.clauses },
       record { some-clause = omega (arith, r.some, m.number); clauses-below = m.below; blocks-below = r.below; alternating = r.alternating },
       e ∙ ap₂ {C = List Token} (λ (a : ℕ) (l : List Token). Problem ∷ Format ∷ Number v ∷ Number a ∷ Line ∷ l)
-          (sym m.number) (r.fields ∙ ap (blocksFields r.blocks) m.fields),
+          (sym m.number) (r.fields ∙ ap (blocks_fields r.blocks) m.fields),
     )
 
 pub whole-page : (ts : List Token) → whole (run start ts) ≡ true → (q : Question) × Shaped q × (ts ≡ page q)
@@ -605,10 +605,10 @@ whole-page ts h =
     let c = b.behind.1 in
     let e = c.behind.1 in
     let f = e.behind in
-    page-of
+    page_of
     (a.fields
-    ∙ cons-both refl (b.fields
-    ∙ cons-both refl (c.fields
-    ∙ cons-both refl (e.fields
-    ∙ cons-both refl f.fields))))
+    ∙ cons_both refl (b.fields
+    ∙ cons_both refl (c.fields
+    ∙ cons_both refl (e.fields
+    ∙ cons_both refl f.fields))))
     f.behind

@@ -3,29 +3,29 @@ use Rattle.std.specs.Prelude.{ℕ, zero, suc, ◌+◌, ◌-◌, ◌*◌, ◌≤�
 use Rattle.dimacs.specs.declared.token.Token.{Token}
 use Rattle.dimacs.specs.declared.token.Token.TheVariants.{Line, Problem, Format, Exists, Forall, Number, Negative, Other}
 
-abbrev pub lineFeed : ℕ
-lineFeed = 10
+abbrev pub line_feed : ℕ
+line_feed = 10
 
 -- a space or a tab; 0D is none
 unfoldable pub blank : ℕ → Bool
 blank b = eqb b 32 || eqb b 9
 
 unfoldable pub separates : ℕ → Bool
-separates b = blank b || eqb b lineFeed
+separates b = blank b || eqb b line_feed
 
 -- ---- comments: lines that begin with c, before all others
 
 -- what is left behind them; `inside`: within such a line, up to its end
-unfoldable pub behindComments : Bool → List ℕ → List ℕ
-behindComments inside [] = []
-behindComments true (b ∷ l) = behindComments (not (eqb b lineFeed)) l
-behindComments false (b ∷ l) = cond (eqb b 99) (behindComments true l) (b ∷ l)
+unfoldable pub behind_comments : Bool → List ℕ → List ℕ
+behind_comments inside [] = []
+behind_comments true (b ∷ l) = behind_comments (not (eqb b line_feed)) l
+behind_comments false (b ∷ l) = cond (eqb b 99) (behind_comments true l) (b ∷ l)
 
 -- ---- a field
 
-unfoldable pub afterBlanks : List ℕ → List ℕ
-afterBlanks [] = []
-afterBlanks (b ∷ l) = cond (blank b) (afterBlanks l) (b ∷ l)
+unfoldable pub after_blanks : List ℕ → List ℕ
+after_blanks [] = []
+after_blanks (b ∷ l) = cond (blank b) (after_blanks l) (b ∷ l)
 
 -- the bytes up to the next separator
 unfoldable pub word : List ℕ → List ℕ
@@ -35,72 +35,72 @@ word (b ∷ l) = cond (separates b) [] (b ∷ word l)
 -- ---- numbers: decimal, without leading zeros, below 2 ^ 31, so that they fit 32 bits signed
 
 -- told for what is no such number
-abbrev pub noNumber : ℕ
-noNumber = 2147483648
+abbrev pub no_number : ℕ
+no_number = 2147483648
 
 unfoldable pub digit : ℕ → Bool
 digit b = leb 48 b && leb b 57
 
 -- v with one digit more
-unfoldable pub withDigit : ℕ → ℕ → ℕ
-withDigit v b = cond (digit b && ltb (v * 10 + (b - 48)) noNumber) (v * 10 + (b - 48)) noNumber
+unfoldable pub with_digit : ℕ → ℕ → ℕ
+with_digit v b = cond (digit b && ltb (v * 10 + (b - 48)) no_number) (v * 10 + (b - 48)) no_number
 
-unfoldable pub decimalFrom : ℕ → List ℕ → ℕ
-decimalFrom v [] = v
-decimalFrom v (b ∷ l) = cond (eqb (withDigit v b) noNumber) noNumber (decimalFrom (withDigit v b) l)
+unfoldable pub decimal_from : ℕ → List ℕ → ℕ
+decimal_from v [] = v
+decimal_from v (b ∷ l) = cond (eqb (with_digit v b) no_number) no_number (decimal_from (with_digit v b) l)
 
 unfoldable pub decimal : List ℕ → ℕ
-decimal w = cond (eqb (length w) 0 || (ltb 1 (length w) && eqb (get_or w 0 0) 48)) noNumber (decimalFrom 0 w)
+decimal w = cond (eqb (length w) 0 || (ltb 1 (length w) && eqb (get_or w 0 0) 48)) no_number (decimal_from 0 w)
 
 -- ---- what a field says
 
-unfoldable pub numberToken : ℕ → Token
-numberToken n = cond (ltb n noNumber) (Number n) Other
+unfoldable pub number_token : ℕ → Token
+number_token n = cond (ltb n no_number) (Number n) Other
 
-unfoldable pub negativeToken : ℕ → Token
-negativeToken n = cond (ltb 0 n && ltb n noNumber) (Negative n) Other
+unfoldable pub negative_token : ℕ → Token
+negative_token n = cond (ltb 0 n && ltb n no_number) (Negative n) Other
 
 -- of one byte: p, e, a or a digit
-unfoldable pub letterToken : ℕ → Token
-letterToken b = cond (eqb b 112) Problem (cond (eqb b 101) Exists (cond (eqb b 97) Forall (numberToken (withDigit 0 b))))
+unfoldable pub letter_token : ℕ → Token
+letter_token b = cond (eqb b 112) Problem (cond (eqb b 101) Exists (cond (eqb b 97) Forall (number_token (with_digit 0 b))))
 
 -- the word cnf
-unfoldable pub isFormat : List ℕ → Bool
-isFormat w = eqb (length w) 3 && (eqb (get_or w 0 0) 99 && (eqb (get_or w 1 0) 110 && eqb (get_or w 2 0) 102))
+unfoldable pub is_format : List ℕ → Bool
+is_format w = eqb (length w) 3 && (eqb (get_or w 0 0) 99 && (eqb (get_or w 1 0) 110 && eqb (get_or w 2 0) 102))
 
 -- one byte, cnf, a number behind a minus sign, or a number
-unfoldable pub tokenOf : List ℕ → Token
-tokenOf w =
-    cond (eqb (length w) 1) (letterToken (get_or w 0 0))
-    (cond (isFormat w) Format
-    (cond (eqb (get_or w 0 0) 45) (negativeToken (decimal (drop 1 w))) (numberToken (decimal w))))
+unfoldable pub token_of : List ℕ → Token
+token_of w =
+    cond (eqb (length w) 1) (letter_token (get_or w 0 0))
+    (cond (is_format w) Format
+    (cond (eqb (get_or w 0 0) 45) (negative_token (decimal (drop 1 w))) (number_token (decimal w))))
 
 -- ---- the fields in a row, line ends among them
 
 -- behind blanks; blanks that no line end follows are no field
-unfoldable pub tokenHere : List ℕ → Token
-tokenHere [] = Other
-tokenHere (b ∷ l) = cond (eqb b lineFeed) Line (tokenOf (word (b ∷ l)))
+unfoldable pub token_here : List ℕ → Token
+token_here [] = Other
+token_here (b ∷ l) = cond (eqb b line_feed) Line (token_of (word (b ∷ l)))
 
-unfoldable pub behindHere : List ℕ → List ℕ
-behindHere [] = []
-behindHere (b ∷ l) = cond (eqb b lineFeed) l (drop (length (word (b ∷ l))) (b ∷ l))
+unfoldable pub behind_here : List ℕ → List ℕ
+behind_here [] = []
+behind_here (b ∷ l) = cond (eqb b line_feed) l (drop (length (word (b ∷ l))) (b ∷ l))
 
 unfoldable pub token : List ℕ → Token
-token l = tokenHere (afterBlanks l)
+token l = token_here (after_blanks l)
 
 unfoldable pub behind : List ℕ → List ℕ
-behind l = behindHere (afterBlanks l)
+behind l = behind_here (after_blanks l)
 
 -- at most so many
-unfoldable pub tokensWithin : ℕ → List ℕ → List Token
-tokensWithin zero l = []
-tokensWithin (suc n) [] = []
-tokensWithin (suc n) (b ∷ l) = token (b ∷ l) ∷ tokensWithin n (behind (b ∷ l))
+unfoldable pub tokens_within : ℕ → List ℕ → List Token
+tokens_within zero l = []
+tokens_within (suc n) [] = []
+tokens_within (suc n) (b ∷ l) = token (b ∷ l) ∷ tokens_within n (behind (b ∷ l))
 
 -- all of them: each takes a byte at least
 unfoldable pub tokens : List ℕ → List Token
-tokens l = tokensWithin (length l) l
+tokens l = tokens_within (length l) l
 
 -- what taking the field at a place gives
 pub record Taken (text : List ℕ) (at : ℕ) (t : Token) (end : ℕ) : Type 0 where

@@ -3,31 +3,31 @@ use Rattle.std.specs.Prelude.{ℕ, zero, suc, ◌+◌, ◌-◌, ◌≤◌, ◌<�
 use Rattle.std.proofs.Common.{arith, sym, ap, ap₂, ◌∙◌, drop_of_length-le}
 use Rattle.std.proofs.Math.ListN.{length-drop}
 use Rattle.words.specs.Logic.{by_bool, clash, or-false}
-use Rattle.dimacs.specs.Token.{lineFeed, blank, separates, afterBlanks, word, tokenHere, behindHere, token, behind, tokensWithin, tokens, Taken}
+use Rattle.dimacs.specs.Token.{line_feed, blank, separates, after_blanks, word, token_here, behind_here, token, behind, tokens_within, tokens, Taken}
 use Rattle.dimacs.specs.declared.token.Token.{Token}
 
 -- ---- behind a field less is left
 
 module _ (b : ℕ) (l : List ℕ) where
   -- what starts with neither a blank nor a line's end starts with a word
-  here-less : blank b ≡ false → length (behindHere (b ∷ l)) ≤ length l
-  unfolding behindHere word separates
-  here-less e =
-      by_bool (eqb b lineFeed) (λ t. rw t (omega arith))
+  here_less : blank b ≡ false → length (behind_here (b ∷ l)) ≤ length l
+  unfolding behind_here word separates
+  here_less e =
+      by_bool (eqb b line_feed) (λ t. rw t (omega arith))
       (λ f. rw (f, e) (omega (arith, length-drop (length (word l)) l)))
 
-pub behind-less : (b : ℕ) (l : List ℕ) → length (behind (b ∷ l)) ≤ length l
-unfolding behind afterBlanks behindHere
-behind-less b [] = by_bool (blank b) (λ t. rw t (omega arith)) (λ f. rw f (here-less b [] f))
-behind-less b (c ∷ l) =
+pub behind_less : (b : ℕ) (l : List ℕ) → length (behind (b ∷ l)) ≤ length l
+unfolding behind after_blanks behind_here
+behind_less b [] = by_bool (blank b) (λ t. rw t (omega arith)) (λ f. rw f (here_less b [] f))
+behind_less b (c ∷ l) =
     by_bool (blank b)
-    (λ t. rw t (omega (arith, behind-less c l)))
-    (λ f. rw f (here-less b (c ∷ l) f))
+    (λ t. rw t (omega (arith, behind_less c l)))
+    (λ f. rw f (here_less b (c ∷ l) f))
 
 -- ---- how many are asked for makes no difference, where they are enough
 
-within-enough : (n m : ℕ) (l : List ℕ) → length l ≤ n → length l ≤ m → tokensWithin n l ≡ tokensWithin m l
-unfolding tokensWithin
+within-enough : (n m : ℕ) (l : List ℕ) → length l ≤ n → length l ≤ m → tokens_within n l ≡ tokens_within m l
+unfolding tokens_within
 within-enough zero zero l h k = refl
 within-enough zero (suc m) [] h k = refl
 within-enough zero (suc m) (b ∷ l) h k = absurd (omega arith)
@@ -35,21 +35,21 @@ within-enough (suc n) zero [] h k = refl
 within-enough (suc n) zero (b ∷ l) h k = absurd (omega arith)
 within-enough (suc n) (suc m) [] h k = refl
 within-enough (suc n) (suc m) (b ∷ l) h k =
-    ap {B = List Token} (λ ts. token (b ∷ l) ∷ ts) (within-enough n m (behind (b ∷ l)) (omega (arith, behind-less b l)) (omega (arith, behind-less b l)))
+    ap {B = List Token} (λ ts. token (b ∷ l) ∷ ts) (within-enough n m (behind (b ∷ l)) (omega (arith, behind_less b l)) (omega (arith, behind_less b l)))
 
-tokens-cons : (b : ℕ) (l : List ℕ) → tokens (b ∷ l) ≡ token (b ∷ l) ∷ tokens (behind (b ∷ l))
-unfolding tokens tokensWithin
-tokens-cons b l =
-    ap {B = List Token} (λ ts. token (b ∷ l) ∷ ts) (within-enough (length l) (length (behind (b ∷ l))) (behind (b ∷ l)) (behind-less b l) (omega arith))
+tokens_cons : (b : ℕ) (l : List ℕ) → tokens (b ∷ l) ≡ token (b ∷ l) ∷ tokens (behind (b ∷ l))
+unfolding tokens tokens_within
+tokens_cons b l =
+    ap {B = List Token} (λ ts. token (b ∷ l) ∷ ts) (within-enough (length l) (length (behind (b ∷ l))) (behind (b ∷ l)) (behind_less b l) (omega arith))
 
 pub tokens-some : (l : List ℕ) → 0 < length l → tokens l ≡ token l ∷ tokens (behind l)
 tokens-some [] h = absurd (omega arith)
-tokens-some (b ∷ l) h = tokens-cons b l
+tokens-some (b ∷ l) h = tokens_cons b l
 
 -- ---- as the code takes them
 
 pub tokens_none : (text : List ℕ) (at : ℕ) → length text ≤ at → tokens (drop at text) ≡ []
-unfolding tokens tokensWithin
+unfolding tokens tokens_within
 tokens_none text at h = rw (drop_of_length-le text h)
 
 module _ {text : List ℕ} {at end : ℕ} {t : Token} (k : Taken text at t end) where

@@ -16,7 +16,7 @@ pub const CLAUSE: u8 = 2;
 
 // The row that the text is in behind a field.
 pub fn row_after(row: u8, t: Token) -> u8
-    ensures { result ≡ Row.rowAfter row t }
+    ensures { result ≡ Row.row_after row t }
 {
     let mark = mark_of(t);
     if mark >= 4 {
@@ -52,7 +52,7 @@ fn mentions(text: &[u8], from: usize, now_in: u8, kind: u8, v: u32) -> bool
 // Whether an atom stands in no later block, and in a clause.
 fn proper_atom(text: &[u8], from: usize, row: u8, v: u32) -> bool
     requires { from ≤ length text.now }
-    ensures { result ≡ Row.properAtom v row (tokens (drop from text.now)) }
+    ensures { result ≡ Row.proper_atom v row (tokens (drop from text.now)) }
 {
     if mentions(text, from, row, BLOCK, v) {
         return false;
@@ -63,7 +63,7 @@ fn proper_atom(text: &[u8], from: usize, row: u8, v: u32) -> bool
 // Whether all atoms from a place on are so.
 pub fn proper_atoms(text: &[u8], from: usize) -> bool
     requires { from ≤ length text.now }
-    ensures { result ≡ Row.properAtoms Row.header (tokens (drop from text.now)) }
+    ensures { result ≡ Row.proper_atoms Row.header (tokens (drop from text.now)) }
 {
     let mut row = HEADER;
     let mut at = from;

@@ -1,10 +1,10 @@
 // Comment lines: those that begin with c, before all others.
 ghost use Rattle.std.specs.Prelude.{◌≡◌, false, ◌≤◌, length, drop};
-ghost use Rattle.dimacs.specs.Token.{behindComments};
+ghost use Rattle.dimacs.specs.Token.{behind_comments};
 
 // Where a text goes on behind its comment lines.
 pub fn behind_comments(text: &[u8]) -> usize
-    ensures { (drop result text.now ≡ behindComments false text.now) × (result ≤ length text.now) }
+    ensures { (drop result text.now ≡ behind_comments false text.now) × (result ≤ length text.now) }
 {
     let mut inside = false;
     let mut at: usize = 0;

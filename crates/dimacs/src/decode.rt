@@ -12,7 +12,7 @@ use words::w32;
 
 // The code of a literal, 0 for a line's 0.
 fn code_of(t: Token) -> u8
-    ensures { result ≡ Row.codeOfField t }
+    ensures { result ≡ Row.code_of_field t }
 {
     match t {
         Token::Number(n) => {
@@ -50,7 +50,7 @@ fn store_word(words: &mut [u32], at: usize, word: u32)
 
 // The word with an atom more, from 1 on.
 fn with_atom(word: u32, n: u32) -> u32
-    ensures { result ≡ Row.withAtom word n }
+    ensures { result ≡ Row.with_atom word n }
 {
     if !in_range(32, n) {
         return word;
@@ -61,7 +61,7 @@ fn with_atom(word: u32, n: u32) -> u32
 // The codes of the clauses, as far as there is room; says how many there are.
 pub fn clauses(text: &[u8], from: usize, codes: &mut [u8]) -> usize
     requires { from ≤ length text.now }
-    ensures { (result ≡ length (Row.codesFrom Row.header (tokens (drop from text.now)))) × (codes.new ≡ sets codes.old 0 (Row.codesFrom Row.header (tokens (drop from text.now)))) }
+    ensures { (result ≡ length (Row.codes_from Row.header (tokens (drop from text.now)))) × (codes.new ≡ sets codes.old 0 (Row.codes_from Row.header (tokens (drop from text.now)))) }
 {
     let mut n: usize = 0;
     let mut row = HEADER;
@@ -84,7 +84,7 @@ pub fn clauses(text: &[u8], from: usize, codes: &mut [u8]) -> usize
 // The words of the blocks, as far as there is room; says how many there are.
 pub fn blocks(text: &[u8], from: usize, words: &mut [u32]) -> usize
     requires { from ≤ length text.now }
-    ensures { (result ≡ length (Row.wordsFrom Row.header 0 (tokens (drop from text.now)))) × (words.new ≡ sets words.old 0 (Row.wordsFrom Row.header 0 (tokens (drop from text.now)))) }
+    ensures { (result ≡ length (Row.words_from Row.header 0 (tokens (drop from text.now)))) × (words.new ≡ sets words.old 0 (Row.words_from Row.header 0 (tokens (drop from text.now)))) }
 {
     let mut n: usize = 0;
     let mut word: u32 = 0;

@@ -46,7 +46,7 @@ pub fn number_of(t: Token) -> u32
 
 // The variable of a literal, from 1 on, 0 for others.
 pub fn variable_of(t: Token) -> u32
-    ensures { result ≡ Machine.variableOf t }
+    ensures { result ≡ Machine.variable_of t }
 {
     match t {
         Token::Number(n) => n,
@@ -108,7 +108,7 @@ fn expect(s: State, ok: bool, p: Phase) -> State
 }
 
 fn at_variables(s: State, n: u32) -> State
-    ensures { result ≡ Machine.atVariables s n }
+    ensures { result ≡ Machine.at_variables s n }
 {
     if n == 0 {
         return into_phase(s, Phase::Broken);
@@ -122,7 +122,7 @@ fn at_variables(s: State, n: u32) -> State
 }
 
 fn at_count(s: State, n: u32) -> State
-    ensures { result ≡ Machine.atCount s n }
+    ensures { result ≡ Machine.at_count s n }
 {
     if n == 0 {
         return into_phase(s, Phase::Broken);
@@ -136,7 +136,7 @@ fn at_count(s: State, n: u32) -> State
 }
 
 fn block_start(s: State, kind: u8) -> State
-    ensures { result ≡ Machine.blockStart s kind }
+    ensures { result ≡ Machine.block_start s kind }
 {
     if s.last == kind {
         return into_phase(s, Phase::Broken);
@@ -150,7 +150,7 @@ fn block_start(s: State, kind: u8) -> State
 }
 
 fn clause_start(s: State, t: Token) -> State
-    ensures { result ≡ Machine.clauseStart s t }
+    ensures { result ≡ Machine.clause_start s t }
 {
     if s.left == 0 {
         return into_phase(s, Phase::Broken);
@@ -159,7 +159,7 @@ fn clause_start(s: State, t: Token) -> State
 }
 
 fn row_start(s: State, t: Token) -> State
-    ensures { result ≡ Machine.rowStart s t }
+    ensures { result ≡ Machine.row_start s t }
 {
     let mark = mark_of(t);
     if mark == 4 {
@@ -175,7 +175,7 @@ fn row_start(s: State, t: Token) -> State
 }
 
 fn at_atom(s: State, t: Token) -> State
-    ensures { result ≡ Machine.atAtom s t }
+    ensures { result ≡ Machine.at_atom s t }
 {
     if is_zero(t) {
         return into_phase(s, Phase::AtBlockEnd);
@@ -184,7 +184,7 @@ fn at_atom(s: State, t: Token) -> State
 }
 
 fn at_literal(s: State, t: Token) -> State
-    ensures { result ≡ Machine.atLiteral s t }
+    ensures { result ≡ Machine.at_literal s t }
 {
     if is_zero(t) {
         return into_phase(s, Phase::AtClauseEnd);
@@ -193,7 +193,7 @@ fn at_literal(s: State, t: Token) -> State
 }
 
 fn at_clause_end(s: State, mark: u8) -> State
-    ensures { result ≡ Machine.atClauseEnd s mark }
+    ensures { result ≡ Machine.at_clause_end s mark }
 {
     if s.left == 0 {
         return into_phase(s, Phase::Broken);

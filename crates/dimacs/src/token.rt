@@ -2,7 +2,7 @@
 ghost use Rattle.std.specs.Prelude.{◌≡◌, ◌+◌, ◌≤◌, ◌<◌, length, drop};
 ghost use Rattle.std.proofs.Math.Seq.{slice};
 ghost use Rattle.dimacs.specs.Token as Field;
-ghost use Rattle.dimacs.specs.Token.{afterBlanks, noNumber, Taken};
+ghost use Rattle.dimacs.specs.Token.{after_blanks, no_number, Taken};
 
 #[derive(Drop)]
 pub enum Token {
@@ -50,7 +50,7 @@ fn separates(b: u8) -> bool
 // Where the blanks at a place end.
 fn skip_blanks(text: &[u8], from: usize) -> usize
     requires { from ≤ length text.now }
-    ensures { (drop result text.now ≡ afterBlanks (drop from text.now)) × (from ≤ result) × (result ≤ length text.now) }
+    ensures { (drop result text.now ≡ after_blanks (drop from text.now)) × (from ≤ result) × (result ≤ length text.now) }
 {
     let mut at = from;
     while at < text.len() {
@@ -79,8 +79,8 @@ fn word_end(text: &[u8], from: usize) -> usize
 
 // The number with one digit more.
 fn with_digit(value: u32, b: u8) -> u32
-    requires { value < noNumber }
-    ensures { result ≡ Field.withDigit value b }
+    requires { value < no_number }
+    ensures { result ≡ Field.with_digit value b }
 {
     if b < b'0' {
         return NO_NUMBER;
@@ -121,7 +121,7 @@ fn decimal(text: &[u8], from: usize, to: usize) -> u32
 }
 
 fn number_token(n: u32) -> Token
-    ensures { result ≡ Field.numberToken n }
+    ensures { result ≡ Field.number_token n }
 {
     if n < NO_NUMBER {
         return Token::Number(n);
@@ -130,7 +130,7 @@ fn number_token(n: u32) -> Token
 }
 
 fn negative_token(n: u32) -> Token
-    ensures { result ≡ Field.negativeToken n }
+    ensures { result ≡ Field.negative_token n }
 {
     if n == 0 {
         return Token::Other;
@@ -144,7 +144,7 @@ fn negative_token(n: u32) -> Token
 // Whether the three bytes at a place are cnf.
 fn is_format(text: &[u8], from: usize) -> bool
     requires { from + 3 ≤ length text.now }
-    ensures { result ≡ Field.isFormat (slice from (from + 3) text.now) }
+    ensures { result ≡ Field.is_format (slice from (from + 3) text.now) }
 {
     if text[from] != b'c' {
         return false;
@@ -157,7 +157,7 @@ fn is_format(text: &[u8], from: usize) -> bool
 
 // A word of one byte: p, e, a or a digit.
 fn letter_token(b: u8) -> Token
-    ensures { result ≡ Field.letterToken b }
+    ensures { result ≡ Field.letter_token b }
 {
     match b {
         b'p' => Token::Problem,
@@ -170,7 +170,7 @@ fn letter_token(b: u8) -> Token
 // What a word says.
 fn token_of(text: &[u8], from: usize, to: usize) -> Token
     requires { (from < to) × (to ≤ length text.now) }
-    ensures { result ≡ Field.tokenOf (slice from to text.now) }
+    ensures { result ≡ Field.token_of (slice from to text.now) }
 {
     if to - from == 1 {
         return letter_token(text[from]);

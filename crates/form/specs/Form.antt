@@ -10,36 +10,36 @@ abbrev pub form_of : Bool → Form
 form_of false = Narrow
 form_of true = Wide
 
-abbrev pub frameBytes : Form → ℕ
-frameBytes Narrow = 4
-frameBytes Wide = 7
+abbrev pub frame_bytes : Form → ℕ
+frame_bytes Narrow = 4
+frame_bytes Wide = 7
 
-abbrev pub mostFrames : Form → ℕ
-mostFrames Narrow = 200
-mostFrames Wide = 3000
+abbrev pub most_frames : Form → ℕ
+most_frames Narrow = 200
+most_frames Wide = 3000
 
 -- variables are the numbers below
 abbrev pub variables : Form → ℕ
 variables Narrow = 32
 variables Wide = 64
 
-abbrev pub recordNumbers : Form → ℕ
-recordNumbers Narrow = 3
-recordNumbers Wide = 5
+abbrev pub record_numbers : Form → ℕ
+record_numbers Narrow = 3
+record_numbers Wide = 5
 
 -- the bytes of a word, and of an answer: a number, V and a word
 abbrev pub word_bytes : Form → ℕ
 word_bytes Narrow = 4
 word_bytes Wide = 8
 
-abbrev pub answerBytes : Form → ℕ
-answerBytes Narrow = 6
-answerBytes Wide = 10
+abbrev pub answer_bytes : Form → ℕ
+answer_bytes Narrow = 6
+answer_bytes Wide = 10
 
 -- words of a form are the numbers below
-abbrev pub wordEnd : Form → ℕ
-wordEnd Narrow = 4294967296
-wordEnd Wide = 18446744073709551616
+abbrev pub word_end : Form → ℕ
+word_end Narrow = 4294967296
+word_end Wide = 18446744073709551616
 
 -- ---- products and quotients by a size
 
@@ -54,35 +54,35 @@ rest Narrow n = n % 4
 rest Wide n = n % 7
 
 -- where frame k starts
-abbrev pub frameStart : Form → ℕ → ℕ
-frameStart Narrow k = k * 4
-frameStart Wide k = k * 7
+abbrev pub frame_start : Form → ℕ → ℕ
+frame_start Narrow k = k * 4
+frame_start Wide k = k * 7
 
 -- how many records n numbers have room for, and where record j starts
 abbrev pub room : Form → ℕ → ℕ
 room Narrow n = n / 3
 room Wide n = n / 5
 
-abbrev pub recordStart : Form → ℕ → ℕ
-recordStart Narrow j = j * 3
-recordStart Wide j = j * 5
+abbrev pub record_start : Form → ℕ → ℕ
+record_start Narrow j = j * 3
+record_start Wide j = j * 5
 
 -- how many answers have room in n bytes, and where answer i starts
-abbrev pub answersIn : Form → ℕ → ℕ
-answersIn Narrow n = n / 6
-answersIn Wide n = n / 10
+abbrev pub answers_in : Form → ℕ → ℕ
+answers_in Narrow n = n / 6
+answers_in Wide n = n / 10
 
-abbrev pub answerStart : Form → ℕ → ℕ
-answerStart Narrow i = i * 6
-answerStart Wide i = i * 10
+abbrev pub answer_start : Form → ℕ → ℕ
+answer_start Narrow i = i * 6
+answer_start Wide i = i * 10
 
 -- ---- the case splits
 
-pub most-place : (F : Form) → mostFrames F ≤ 3000
+pub most-place : (F : Form) → most_frames F ≤ 3000
 most-place Narrow = omega arith
 most-place Wide = omega arith
 
-pub some-frames : (F : Form) → 0 < mostFrames F
+pub some-frames : (F : Form) → 0 < most_frames F
 some-frames Narrow = omega arith
 some-frames Wide = omega arith
 
@@ -90,11 +90,11 @@ pub few-variables : (F : Form) → variables F ≤ 64
 few-variables Narrow = omega arith
 few-variables Wide = omega arith
 
-pub end-power : (F : Form) → wordEnd F ≡ 2 ^ variables F
-end-power Narrow = refl
-end-power Wide = refl
+pub end_power : (F : Form) → word_end F ≡ 2 ^ variables F
+end_power Narrow = refl
+end_power Wide = refl
 
-pub end-most : (F : Form) → wordEnd F ≤ 18446744073709551616
+pub end-most : (F : Form) → word_end F ≤ 18446744073709551616
 end-most Narrow = omega arith
 end-most Wide = omega arith
 
@@ -115,11 +115,11 @@ whole-frames Wide n h e = by_less n h e
     by_less (suc n) h e = omega arith
 
 -- nothing is behind the whole frames exactly if they are all
-pub rest-whole : (F : Form) (n : ℕ) → rest F n ≡ 0 → frameStart F (frames F n) ≡ n
+pub rest-whole : (F : Form) (n : ℕ) → rest F n ≡ 0 → frame_start F (frames F n) ≡ n
 rest-whole Narrow n e = omega arith
 rest-whole Wide n e = omega arith
 
-pub whole-rest : (F : Form) (n : ℕ) → frameStart F (frames F n) ≡ n → rest F n ≡ 0
+pub whole-rest : (F : Form) (n : ℕ) → frame_start F (frames F n) ≡ n → rest F n ≡ 0
 whole-rest Narrow n e = omega arith
 whole-rest Wide n e = omega arith
 
@@ -127,61 +127,61 @@ pub frames-some : (F : Form) (n : ℕ) → 0 < frames F n → (n ≡ 0 → ⊥)
 frames-some Narrow n h e = omega arith
 frames-some Wide n h e = omega arith
 
-pub start-next : (F : Form) (j : ℕ) → recordStart F (j + 1) ≡ recordStart F j + recordNumbers F
+pub start-next : (F : Form) (j : ℕ) → record_start F (j + 1) ≡ record_start F j + record_numbers F
 start-next Narrow j = omega arith
 start-next Wide j = omega arith
 
-pub start_none : (F : Form) → recordStart F 0 ≡ 0
+pub start_none : (F : Form) → record_start F 0 ≡ 0
 start_none Narrow = refl
 start_none Wide = refl
 
-pub start-mono : (F : Form) {i j : ℕ} → i ≤ j → recordStart F i ≤ recordStart F j
-start-mono Narrow h = omega arith
-start-mono Wide h = omega arith
+pub start_mono : (F : Form) {i j : ℕ} → i ≤ j → record_start F i ≤ record_start F j
+start_mono Narrow h = omega arith
+start_mono Wide h = omega arith
 
 -- a record that starts before another also ends before it
-pub start-before : (F : Form) {i j : ℕ} → i < j → recordStart F i + recordNumbers F ≤ recordStart F j
+pub start-before : (F : Form) {i j : ℕ} → i < j → record_start F i + record_numbers F ≤ record_start F j
 start-before Narrow h = omega arith
 start-before Wide h = omega arith
 
 -- a count of records fits into n numbers exactly if there is room
-pub room_fits : (F : Form) {j n : ℕ} → j ≤ room F n → recordStart F j ≤ n
+pub room_fits : (F : Form) {j n : ℕ} → j ≤ room F n → record_start F j ≤ n
 room_fits Narrow h = omega arith
 room_fits Wide h = omega arith
 
-pub fits-room : (F : Form) {j n : ℕ} → recordStart F j ≤ n → j ≤ room F n
+pub fits-room : (F : Form) {j n : ℕ} → record_start F j ≤ n → j ≤ room F n
 fits-room Narrow h = omega arith
 fits-room Wide h = omega arith
 
-pub answer-sum : (F : Form) → suc (suc (word_bytes F)) ≡ answerBytes F
+pub answer-sum : (F : Form) → suc (suc (word_bytes F)) ≡ answer_bytes F
 answer-sum Narrow = refl
 answer-sum Wide = refl
 
-pub answer-none : (F : Form) → answerStart F 0 ≡ 0
+pub answer-none : (F : Form) → answer_start F 0 ≡ 0
 answer-none Narrow = refl
 answer-none Wide = refl
 
-pub answer-next : (F : Form) (i : ℕ) → answerStart F (i + 1) ≡ answerStart F i + answerBytes F
+pub answer-next : (F : Form) (i : ℕ) → answer_start F (i + 1) ≡ answer_start F i + answer_bytes F
 answer-next Narrow i = omega arith
 answer-next Wide i = omega arith
 
-pub answer-mono : (F : Form) {i j : ℕ} → i ≤ j → answerStart F i ≤ answerStart F j
-answer-mono Narrow h = omega arith
-answer-mono Wide h = omega arith
+pub answer_mono : (F : Form) {i j : ℕ} → i ≤ j → answer_start F i ≤ answer_start F j
+answer_mono Narrow h = omega arith
+answer_mono Wide h = omega arith
 
-pub answer-before : (F : Form) {i j : ℕ} → i < j → answerStart F i + answerBytes F ≤ answerStart F j
+pub answer-before : (F : Form) {i j : ℕ} → i < j → answer_start F i + answer_bytes F ≤ answer_start F j
 answer-before Narrow h = omega arith
 answer-before Wide h = omega arith
 
 -- so many answers fit into n bytes exactly if there is room
-pub answers-fit : (F : Form) {i n : ℕ} → i ≤ answersIn F n → answerStart F i ≤ n
+pub answers-fit : (F : Form) {i n : ℕ} → i ≤ answers_in F n → answer_start F i ≤ n
 answers-fit Narrow h = omega arith
 answers-fit Wide h = omega arith
 
-pub fit-answers : (F : Form) {i n : ℕ} → answerStart F i ≤ n → i ≤ answersIn F n
+pub fit-answers : (F : Form) {i n : ℕ} → answer_start F i ≤ n → i ≤ answers_in F n
 fit-answers Narrow h = omega arith
 fit-answers Wide h = omega arith
 
-pub answers-whole : (F : Form) (i : ℕ) → answersIn F (answerStart F i) ≡ i
+pub answers-whole : (F : Form) (i : ℕ) → answers_in F (answer_start F i) ≡ i
 answers-whole Narrow i = omega arith
 answers-whole Wide i = omega arith

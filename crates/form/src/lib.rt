@@ -20,7 +20,7 @@ pub fn of(wide: bool) -> Form
 }
 
 pub fn frame_bytes(form: Form) -> usize
-    ensures { result ≡ Sizes.frameBytes form }
+    ensures { result ≡ Sizes.frame_bytes form }
 {
     match form {
         Form::Narrow => 4,
@@ -29,7 +29,7 @@ pub fn frame_bytes(form: Form) -> usize
 }
 
 pub fn most_frames(form: Form) -> usize
-    ensures { result ≡ Sizes.mostFrames form }
+    ensures { result ≡ Sizes.most_frames form }
 {
     match form {
         Form::Narrow => 200,
@@ -47,7 +47,7 @@ pub fn variables(form: Form) -> u8
 }
 
 pub fn answer_bytes(form: Form) -> usize
-    ensures { result ≡ Sizes.answerBytes form }
+    ensures { result ≡ Sizes.answer_bytes form }
 {
     match form {
         Form::Narrow => 6,
@@ -87,7 +87,7 @@ pub fn room(form: Form, len: usize) -> usize
 
 // How many answers have room in so many bytes.
 pub fn answers(form: Form, len: usize) -> usize
-    ensures { result ≡ Sizes.answersIn form len }
+    ensures { result ≡ Sizes.answers_in form len }
 {
     match form {
         Form::Narrow => len / 6,

@@ -3,7 +3,7 @@ use Rattle.std.specs.Prelude.{ℕ, ◌≡◌, refl, Bool, not, ◌&&◌, ◌||�
 use Rattle.std.proofs.Common.{ap, ap₂, eq-eqb}
 use Rattle.std.proofs.Math.Bool.{true, false, and-false, and-true}
 use Rattle.words.specs.Logic.{or_left, or_right}
-use Rattle.formula.specs.Assignment.{Assignment, within, join, sweep, On, Off, sweep-finds, sweep-meets, sweep-misses, sweep-all, sweep-reads}
+use Rattle.formula.specs.Assignment.{Assignment, within, join, sweep, On, Off, sweep_finds, sweep_meets, sweep_misses, sweep-all, sweep-reads}
 
 -- A gate and a quantifier carry the truth that decides them, so that each law is stated once.
 pub data Formula : Type 0 where
@@ -68,16 +68,16 @@ module _ (b c : ℕ) (f : Formula) (σ : Assignment) where
   -- true: there is one that makes the body true
   pub exists-some : truth (exists b c f) σ ≡ true → (τ : Assignment) × Off b c τ σ × (truth f τ ≡ true)
   unfolding truth
-  exists-some e = sweep-finds true b c (truth f) σ e
+  exists-some e = sweep_finds true b c (truth f) σ e
 
   pub some-exists : (τ : Assignment) → Off b c τ σ → truth f τ ≡ true → truth (exists b c f) σ ≡ true
   unfolding truth
-  some-exists τ t e = sweep-meets true b c (truth f) σ τ t e
+  some-exists τ t e = sweep_meets true b c (truth f) σ τ t e
 
   -- true: every one does
   pub forall-every : truth (forall b c f) σ ≡ true → (τ : Assignment) → Off b c τ σ → truth f τ ≡ true
   unfolding truth
-  forall-every e τ t = sweep-misses false b c (truth f) σ e τ t
+  forall-every e τ t = sweep_misses false b c (truth f) σ e τ t
 
   pub every-forall : ((τ : Assignment) → Off b c τ σ → truth f τ ≡ true) → truth (forall b c f) σ ≡ true
   unfolding truth

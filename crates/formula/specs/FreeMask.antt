@@ -5,42 +5,42 @@ use Rattle.std.proofs.Math.Bool.{and-false}
 use Rattle.std.specs.Int.Bits.{bit_or}
 use Rattle.words.specs.Logic.{by_bool, clash, and_both, or_cases}
 use Rattle.words.specs.Word.{bit-or, bit-none, bit-pow, ext}
-use Rattle.words.specs.Mask.{without, bit-without, rangeMask, bit-rangeMask}
+use Rattle.words.specs.Mask.{without, bit-without, range_mask, bit-range_mask}
 use Rattle.formula.specs.Assignment.{within}
 use Rattle.formula.specs.Formula.{Formula, never, input, neg, gate, quant, free}
-use Rattle.formula.specs.Ask.{freeMask, bit-freeMask, Bounded}
+use Rattle.formula.specs.Ask.{free_mask, bit-free_mask, Bounded}
 
-pub freeMask-never : (n : ℕ) → freeMask n never ≡ 0
+pub free_mask-never : (n : ℕ) → free_mask n never ≡ 0
 unfolding free
-freeMask-never n = ext (freeMask n never) 0 (λ k. bit-freeMask n never k ∙ and-false (ltb k n) ∙ sym (bit-none k))
+free_mask-never n = ext (free_mask n never) 0 (λ k. bit-free_mask n never k ∙ and-false (ltb k n) ∙ sym (bit-none k))
 
-pub freeMask-input : (n x : ℕ) → x < n → freeMask n (input x) ≡ 2 ^ x
+pub free_mask-input : (n x : ℕ) → x < n → free_mask n (input x) ≡ 2 ^ x
 unfolding free
-freeMask-input n x h =
-    ext (freeMask n (input x)) (2 ^ x)
-    (λ k. bit-freeMask n (input x) k
+free_mask-input n x h =
+    ext (free_mask n (input x)) (2 ^ x)
+    (λ k. bit-free_mask n (input x) k
     ∙ by_bool (eqb k x) (λ e. rw (e, eqb-true k x e, lt-ltb x n h)) (λ e. rw e (and-false (ltb k n)))
     ∙ sym (bit-pow x k))
 
-pub freeMask-neg : (n : ℕ) (f : Formula) → freeMask n (neg f) ≡ freeMask n f
-unfolding free freeMask
-freeMask-neg n f = refl
+pub free_mask-neg : (n : ℕ) (f : Formula) → free_mask n (neg f) ≡ free_mask n f
+unfolding free free_mask
+free_mask-neg n f = refl
 
-pub freeMask-gate : (n : ℕ) (d : Bool) (f g : Formula) → freeMask n (gate d f g) ≡ bit_or (freeMask n f) (freeMask n g)
+pub free_mask-gate : (n : ℕ) (d : Bool) (f g : Formula) → free_mask n (gate d f g) ≡ bit_or (free_mask n f) (free_mask n g)
 unfolding free
-freeMask-gate n d f g =
-    ext (freeMask n (gate d f g)) (bit_or (freeMask n f) (freeMask n g))
-    (λ k. simp (bit-or, bit-freeMask) (spread (ltb k n) (free f k) (free g k)))
+free_mask-gate n d f g =
+    ext (free_mask n (gate d f g)) (bit_or (free_mask n f) (free_mask n g))
+    (λ k. simp (bit-or, bit-free_mask) (spread (ltb k n) (free f k) (free g k)))
   where
     spread : (t a b : Bool) → (t && (a || b)) ≡ (t && a) || (t && b)
     spread true a b = refl
     spread false a b = refl
 
-pub freeMask-quant : (n : ℕ) (d : Bool) (b c : ℕ) (f : Formula) → freeMask n (quant d b c f) ≡ without (freeMask n f) (rangeMask b c)
+pub free_mask-quant : (n : ℕ) (d : Bool) (b c : ℕ) (f : Formula) → free_mask n (quant d b c f) ≡ without (free_mask n f) (range_mask b c)
 unfolding free within
-freeMask-quant n d b c f =
-    ext (freeMask n (quant d b c f)) (without (freeMask n f) (rangeMask b c))
-    (λ k. simp (bit-without, bit-rangeMask, bit-freeMask) (assoc (ltb k n) (free f k) (not (within b c k))))
+free_mask-quant n d b c f =
+    ext (free_mask n (quant d b c f)) (without (free_mask n f) (range_mask b c))
+    (λ k. simp (bit-without, bit-range_mask, bit-free_mask) (assoc (ltb k n) (free f k) (not (within b c k))))
   where
     assoc : (t a b : Bool) → (t && (a && b)) ≡ (t && a) && b
     assoc true a b = refl

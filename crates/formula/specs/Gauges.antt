@@ -6,15 +6,15 @@ use Rattle.words.specs.Mask.{without, inside}
 use Rattle.formula.specs.Formula.{Formula, truth}
 use Rattle.formula.specs.Over.{over}
 use Rattle.formula.specs.Least.{least}
-use Rattle.formula.specs.Ask.{Verdict, yes, freeMask, ask}
+use Rattle.formula.specs.Ask.{Verdict, yes, free_mask, ask}
 use Rattle.formula.specs.Why.{reduce, why}
 
 -- the free variables that are not entered: the gauges among them, and those that are ours to choose
 unfoldable pub unread : ℕ → Formula → ℕ → ℕ → ℕ
-unread n f g mask = bit_and (without (freeMask n f) mask) g
+unread n f g mask = bit_and (without (free_mask n f) mask) g
 
 unfoldable pub ours : ℕ → Formula → ℕ → ℕ → ℕ
-ours n f g mask = without (without (freeMask n f) mask) g
+ours n f g mask = without (without (free_mask n f) mask) g
 
 -- some setting of what is ours makes f true
 unfoldable pub possible : ℕ → Formula → ℕ → ℕ → Formula
@@ -28,15 +28,15 @@ assured n f g mask = over false (unread n f g mask) (possible n f g mask)
 unfoldable pub fails : ℕ → Formula → ℕ → ℕ → ℕ → ℕ → Bool
 fails n f g mask values z = inside z (unread n f g mask) && not (truth (possible n f g mask) (bit (values + z)))
 
-abbrev pub noAt : ℕ → Verdict
-noAt z = record { holds = false; word = z }
+abbrev pub no_at : ℕ → Verdict
+no_at z = record { holds = false; word = z }
 
 -- ASK. Yes: the smallest word with the unread gauges at 0, as if they were entered so. No: the smallest setting of the unread gauges that fails
 unfoldable pub verdict : ℕ → Formula → ℕ → ℕ → ℕ → Verdict
 verdict n f g mask values =
     let u = unread n f g mask in
     let smallest = yes (ask n f (bit_or mask u) values).word in
-    let failing = noAt (least (fails n f g mask values) 0 (suc u)) in
+    let failing = no_at (least (fails n f g mask values) 0 (suc u)) in
     cond (truth (assured n f g mask) (bit values)) smallest failing
 
 -- WHY. Without a gauge `why`; else from the entered variables on, and one goes if the verdict is the same for all values of those that went

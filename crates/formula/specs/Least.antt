@@ -23,20 +23,20 @@ unfolding least
 least-hit p b zero h = absurd (omega arith)
 least-hit p b (suc c) h = by_bool (p b) (λ e. rw e e) (λ e. rw e (least-hit p (suc b) c (omega (arith, rw e at h))))
 
-pub least-miss : (p : ℕ → Bool) (b c k : ℕ) → b ≤ k → k < least p b c → p k ≡ false
+pub least_miss : (p : ℕ → Bool) (b c k : ℕ) → b ≤ k → k < least p b c → p k ≡ false
 unfolding least
-least-miss p b zero k l h = absurd (omega arith)
-least-miss p b (suc c) k l h =
+least_miss p b zero k l h = absurd (omega arith)
+least_miss p b (suc c) k l h =
     by_bool (p b)
     (λ e. absurd (omega (arith, rw e at h)))
-    (λ e. by_bool (eqb k b) (λ q. rw (eqb-true k b q) e) (λ q. least-miss p (suc b) c k (omega tests) (rw e at h)))
+    (λ e. by_bool (eqb k b) (λ q. rw (eqb-true k b q) e) (λ q. least_miss p (suc b) c k (omega tests) (rw e at h)))
 
 -- the laws settle it: a number that passes, with none before it, is the first
 pub least-is : (p : ℕ → Bool) (b c m : ℕ) → b ≤ m → m < b + c → p m ≡ true → ((k : ℕ) → b ≤ k → k < m → p k ≡ false) → least p b c ≡ m
 least-is p b c m l h e f =
     by_bool (ltb (least p b c) m)
     (λ i. clash (p (least p b c)) (least-hit p b c (omega tests)) (f (least p b c) (least-low p b c) (omega tests)))
-    (λ i. by_bool (ltb m (least p b c)) (λ j. clash (p m) e (least-miss p b c m l (omega tests))) (λ j. omega tests))
+    (λ i. by_bool (ltb m (least p b c)) (λ j. clash (p m) e (least_miss p b c m l (omega tests))) (λ j. omega tests))
 
 pub least-none : (p : ℕ → Bool) (b c : ℕ) → ((k : ℕ) → b ≤ k → k < b + c → p k ≡ false) → least p b c ≡ b + c
 least-none p b c f =

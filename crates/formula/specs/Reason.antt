@@ -4,7 +4,7 @@ use Rattle.std.proofs.Common.{sym, ◌∙◌, ap, eq-eqb, eqb-true}
 use Rattle.std.proofs.Math.Path.{fun_ext}
 use Rattle.words.specs.Logic.{by_bool, clash, and_both, or_cases, or_left, or_right}
 use Rattle.formula.specs.Assignment.{Assignment, assign, within, On, Off, none, only, union, except, minus}
-use Rattle.formula.specs.Assignment.{assign-same, assign_other, assign-self, join-left, join-right, join-both, sweep-meets, sweep-all}
+use Rattle.formula.specs.Assignment.{assign-same, assign_other, assign_self, join-left, join-right, join-both, sweep_meets, sweep-all}
 use Rattle.formula.specs.Formula.{Formula, never, input, neg, gate, quant, truth, free, coincide}
 
 pub record Explains (f : Formula) (v : Bool) (r w : Assignment) : Type 0 where
@@ -12,20 +12,20 @@ pub record Explains (f : Formula) (v : Bool) (r w : Assignment) : Type 0 where
   pub forces : (σ : Assignment) → On r σ w → truth f σ ≡ v
 
 -- a formula explains itself by all its free variables
-pub explains-all : (f : Formula) (w : Assignment) → Explains f (truth f w) (free f) w
-explains-all f w = record { inside = λ k e. e; forces = λ σ h. coincide f σ w h }
+pub explains_all : (f : Formula) (w : Assignment) → Explains f (truth f w) (free f) w
+explains_all f w = record { inside = λ k e. e; forces = λ σ h. coincide f σ w h }
 
-pub explains-never : (w : Assignment) → Explains never false none w
+pub explains_never : (w : Assignment) → Explains never false none w
 unfolding truth
-explains-never w = record { inside = λ k e. clash false e refl; forces = λ σ h. refl }
+explains_never w = record { inside = λ k e. clash false e refl; forces = λ σ h. refl }
 
-pub explains-input : (x : ℕ) (w : Assignment) → Explains (input x) (w x) (only x) w
+pub explains_input : (x : ℕ) (w : Assignment) → Explains (input x) (w x) (only x) w
 unfolding truth free
-explains-input x w = record { inside = λ k e. e; forces = λ σ h. h x (eq-eqb x x refl) }
+explains_input x w = record { inside = λ k e. e; forces = λ σ h. h x (eq-eqb x x refl) }
 
-pub explains-neg : {f : Formula} {v : Bool} {r w : Assignment} → Explains f v r w → Explains (neg f) (not v) r w
+pub explains_neg : {f : Formula} {v : Bool} {r w : Assignment} → Explains f v r w → Explains (neg f) (not v) r w
 unfolding truth free
-explains-neg F = record { inside = F.inside; forces = λ σ h. ap not (F.forces σ h) }
+explains_neg F = record { inside = F.inside; forces = λ σ h. ap not (F.forces σ h) }
 
 -- ---- gates: one side that decides, or both sides
 
@@ -71,18 +71,18 @@ mix-off : (b c : ℕ) (w σ : Assignment) → Off b c (mix b c w σ) σ
 unfolding mix
 mix-off b c w σ k e = rw e
 
-mix-on : (r : ℕ → Bool) (b c : ℕ) (w σ : Assignment) → On (minus r b c) σ w → On r (mix b c w σ) w
+mix_on : (r : ℕ → Bool) (b c : ℕ) (w σ : Assignment) → On (minus r b c) σ w → On r (mix b c w σ) w
 unfolding mix
-mix-on r b c w σ h k q = by_bool (within b c k) (λ e. rw e) (λ e. rw e (h k (rw (q, e))))
+mix_on r b c w σ h k q = by_bool (within b c k) (λ e. rw e) (λ e. rw e (h k (rw (q, e))))
 
 module _ {d : Bool} {b c : ℕ} {f : Formula} {r w : Assignment} where
   -- a body that decides: its reason without the bound variables
-  pub quant-decided : Explains f d r w → Explains (quant d b c f) d (minus r b c) w
+  pub quant_decided : Explains f d r w → Explains (quant d b c f) d (minus r b c) w
   unfolding truth free
-  quant-decided F =
+  quant_decided F =
       record {
         inside = λ k e. let h = and_both (r k) (not (within b c k)) e in rw (F.inside k h.0) h.1;
-        forces = λ σ h. sweep-meets d b c (truth f) σ (mix b c w σ) (mix-off b c w σ) (F.forces (mix b c w σ) (mix-on r b c w σ h));
+        forces = λ σ h. sweep_meets d b c (truth f) σ (mix b c w σ) (mix-off b c w σ) (F.forces (mix b c w σ) (mix_on r b c w σ h));
       }
 
   -- a body that does not, whatever the bound variables are
@@ -96,38 +96,38 @@ module _ {d : Bool} {b c : ℕ} {f : Formula} {r w : Assignment} where
 
 -- ---- branching on a variable x: the reasons of both halves, without x
 
-branch-on : (m q : ℕ → Bool) (x : ℕ) (σ w : Assignment) → ((k : ℕ) → q k ≡ true → m k ≡ true) → On (except m x) σ w → On q σ (assign w x (σ x))
-branch-on m q x σ w i h k e =
+branch_on : (m q : ℕ → Bool) (x : ℕ) (σ w : Assignment) → ((k : ℕ) → q k ≡ true → m k ≡ true) → On (except m x) σ w → On q σ (assign w x (σ x))
+branch_on m q x σ w i h k e =
     by_bool (eqb k x)
     (λ s. rw (eqb-true k x s, assign-same))
     (λ s. h k (rw (i k e, s)) ∙ sym (assign_other w x (σ x) k s))
 
 module _ {f : Formula} {v : Bool} {r q w : Assignment} (x : ℕ) where
-  pub explains-branch : Explains f v r (assign w x false) → Explains f v q (assign w x true) → Explains f v (except (union r q) x) w
-  explains-branch F G =
+  pub explains_branch : Explains f v r (assign w x false) → Explains f v q (assign w x true) → Explains f v (except (union r q) x) w
+  explains_branch F G =
       record {
         inside = λ k h. or_cases (r k) (q k) (and_both (union r q k) (not (eqb k x)) h).0 (F.inside k) (G.inside k);
         forces =
             λ σ h. by_bool (σ x)
-            (λ s. G.forces σ (rw s at (branch-on (union r q) q x σ w (λ k z. or_right (r k) (q k) z) h)))
-            (λ s. F.forces σ (rw s at (branch-on (union r q) r x σ w (λ k z. or_left (r k) (q k) z) h)));
+            (λ s. G.forces σ (rw s at (branch_on (union r q) q x σ w (λ k z. or_right (r k) (q k) z) h)))
+            (λ s. F.forces σ (rw s at (branch_on (union r q) r x σ w (λ k z. or_left (r k) (q k) z) h)));
       }
 
   -- where w has x false already
-  pub explains-branch-at : w x ≡ false → Explains f v r w → Explains f v q (assign w x true) → Explains f v (except (union r q) x) w
-  explains-branch-at e F G = explains-branch (rw (assign-self w x false e) F) G
+  pub explains_branch_at : w x ≡ false → Explains f v r w → Explains f v q (assign w x true) → Explains f v (except (union r q) x) w
+  explains_branch_at e F G = explains_branch (rw (assign_self w x false e) F) G
 
 -- ---- changes that keep a reason: the assignment off the mask, an equal mask, a larger one
 
 module _ {f : Formula} {v : Bool} {r w : Assignment} (F : Explains f v r w) where
-  pub explains-set : (u : Assignment) → On r w u → Explains f v r u
-  explains-set u e = record { inside = F.inside; forces = λ σ h. F.forces σ (λ k i. h k i ∙ sym (e k i)) }
+  pub explains_set : (u : Assignment) → On r w u → Explains f v r u
+  explains_set u e = record { inside = F.inside; forces = λ σ h. F.forces σ (λ k i. h k i ∙ sym (e k i)) }
 
-  pub explains-mask : (q : ℕ → Bool) → ((k : ℕ) → r k ≡ q k) → Explains f v q w
-  explains-mask q e = rw (fun_ext e) at F
+  pub explains_mask : (q : ℕ → Bool) → ((k : ℕ) → r k ≡ q k) → Explains f v q w
+  explains_mask q e = rw (fun_ext e) at F
 
-  pub explains-weaken : (q : ℕ → Bool) → ((k : ℕ) → r k ≡ true → q k ≡ true) → ((k : ℕ) → q k ≡ true → free f k ≡ true) → Explains f v q w
-  explains-weaken q i j = record { inside = j; forces = λ σ h. F.forces σ (λ k e. h k (i k e)) }
+  pub explains_weaken : (q : ℕ → Bool) → ((k : ℕ) → r k ≡ true → q k ≡ true) → ((k : ℕ) → q k ≡ true → free f k ≡ true) → Explains f v q w
+  explains_weaken q i j = record { inside = j; forces = λ σ h. F.forces σ (λ k e. h k (i k e)) }
 
-  pub explains-truth : truth f w ≡ v
-  explains-truth = F.forces w (λ k e. refl)
+  pub explains_truth : truth f w ≡ v
+  explains_truth = F.forces w (λ k e. refl)

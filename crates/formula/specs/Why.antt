@@ -7,11 +7,11 @@ use Rattle.std.proofs.Math.Bool.{true, false, and-false}
 use Rattle.std.specs.Bool.{beq}
 use Rattle.words.specs.Logic.{by_bool, clash, tests, and_both}
 use Rattle.words.specs.Word.{bit, bit-pow}
-use Rattle.words.specs.Mask.{Sub, without, bits-sub, sub_refl, sub_trans, without_sub, without-mono, without-none, bit-without}
-use Rattle.formula.specs.Assignment.{Assignment, within, sweep, On, Off, differ, sweep-finds, sweep-misses, sweep-all}
+use Rattle.words.specs.Mask.{Sub, without, bits_sub, sub_refl, sub_trans, without_sub, without_mono, without-none, bit-without}
+use Rattle.formula.specs.Assignment.{Assignment, within, sweep, On, Off, differ, sweep_finds, sweep_misses, sweep-all}
 use Rattle.formula.specs.Formula.{Formula, truth, free, coincide}
 use Rattle.formula.specs.Reason.{Explains}
-use Rattle.formula.specs.Ask.{Verdict, Bounded, Entries, freeMask, ask, bit-freeMask, bit-free, ask-word, ask-never}
+use Rattle.formula.specs.Ask.{Verdict, Bounded, Entries, free_mask, ask, bit-free_mask, bit-free, ask-word, ask-never}
 
 -- w on the variables of m, σ elsewhere
 unfoldable pub overlay : ℕ → ℕ → Assignment → Assignment
@@ -27,16 +27,16 @@ reduce n f w v zero m = m
 reduce n f w v (suc k) m = reduce n f w v k (cond (always n f (without m (2 ^ k)) w v) (without m (2 ^ k)) m)
 
 -- on yes all free variables with ASK's word, on no the entered ones with their values
-unfoldable pub startMask : ℕ → Formula → Bool → ℕ → ℕ
-startMask n f holds mask = cond holds (freeMask n f) mask
+unfoldable pub start_mask : ℕ → Formula → Bool → ℕ → ℕ
+start_mask n f holds mask = cond holds (free_mask n f) mask
 
-unfoldable pub startWord : Verdict → ℕ → ℕ
-startWord a values = cond a.holds a.word values
+unfoldable pub start_word : Verdict → ℕ → ℕ
+start_word a values = cond a.holds a.word values
 
 unfoldable pub why : ℕ → Formula → ℕ → ℕ → Verdict
 why n f mask values =
     let a = ask n f mask values in
-    record { holds = a.holds; word = reduce n f (startWord a values) a.holds n (startMask n f a.holds mask) }
+    record { holds = a.holds; word = reduce n f (start_word a values) a.holds n (start_mask n f a.holds mask) }
 
 -- ---- what always means
 
@@ -56,9 +56,9 @@ true-beq : (a b : Bool) → a ≡ b → beq a b ≡ true
 true-beq a true e = rw e
 true-beq a false e = rw e
 
-overlay-on : (m w : ℕ) (σ : Assignment) → On (bit m) (overlay m w σ) (bit w)
+overlay_on : (m w : ℕ) (σ : Assignment) → On (bit m) (overlay m w σ) (bit w)
 unfolding overlay
-overlay-on m w σ k e = rw e
+overlay_on m w σ k e = rw e
 
 -- σ on the variables below n, w elsewhere
 unfoldable low : ℕ → ℕ → Assignment → Assignment
@@ -84,32 +84,32 @@ module _ (n : ℕ) (f : Formula) (m w : ℕ) (v : Bool) where
   unfolding always
   always-every B e σ a =
       coincide f σ (overlay m w (low n w σ)) (λ k h. sym (overlay-same n m w σ k (B.below k h) a))
-      ∙ beq-true (truth f (overlay m w (low n w σ))) v (sweep-misses false 0 n gives (bit w) e (low n w σ) (low-off n w σ))
+      ∙ beq-true (truth f (overlay m w (low n w σ))) v (sweep_misses false 0 n gives (bit w) e (low n w σ) (low-off n w σ))
 
   pub every-always : ((σ : Assignment) → On (bit m) σ (bit w) → truth f σ ≡ v) → always n f m w v ≡ true
   unfolding always
-  every-always h = sweep-all false 0 n gives (bit w) (λ τ t. true-beq (truth f (overlay m w τ)) v (h (overlay m w τ) (overlay-on m w τ)))
+  every-always h = sweep-all false 0 n gives (bit w) (λ τ t. true-beq (truth f (overlay m w τ)) v (h (overlay m w τ) (overlay_on m w τ)))
 
   pub always-fails : always n f m w v ≡ false → (σ : Assignment) × On (bit m) σ (bit w) × (truth f σ ≡ not v)
   unfolding always
   always-fails e =
-      let t = sweep-finds false 0 n gives (bit w) e in
-      (overlay m w t.0, overlay-on m w t.0, beq-false (truth f (overlay m w t.0)) v t.2)
+      let t = sweep_finds false 0 n gives (bit w) e in
+      (overlay m w t.0, overlay_on m w t.0, beq-false (truth f (overlay m w t.0)) v t.2)
 
   pub fails-always : Bounded n f → (σ : Assignment) → On (bit m) σ (bit w) → truth f σ ≡ not v → always n f m w v ≡ false
   fails-always B σ a e = by_bool (always n f m w v) (λ h. differ v (truth f σ) (always-every B h σ a) e) (λ h. h)
 
   -- a reason inside m
-  pub explains-always : (r : ℕ) → Explains f v (bit r) (bit w) → Sub r m → always n f m w v ≡ true
-  explains-always r F s = every-always (λ σ a. F.forces σ (λ k e. a k (bits-sub s k e)))
+  pub explains_always : (r : ℕ) → Explains f v (bit r) (bit w) → Sub r m → always n f m w v ≡ true
+  explains_always r F s = every-always (λ σ a. F.forces σ (λ k e. a k (bits_sub s k e)))
 
   -- m itself is one
-  pub always-explains : Bounded n f → Sub m (freeMask n f) → always n f m w v ≡ true → Explains f v (bit m) (bit w)
-  always-explains B s e = record { inside = λ k h. sym (bit-free B k) ∙ bits-sub s k h; forces = always-every B e }
+  pub always_explains : Bounded n f → Sub m (free_mask n f) → always n f m w v ≡ true → Explains f v (bit m) (bit w)
+  always_explains B s e = record { inside = λ k h. sym (bit-free B k) ∙ bits_sub s k h; forces = always-every B e }
 
 -- what a part of m forces, m does
-pub always-mono : {n : ℕ} {f : Formula} {q m : ℕ} (w : ℕ) (v : Bool) → Bounded n f → Sub q m → always n f q w v ≡ true → always n f m w v ≡ true
-always-mono {n} {f} {q} {m} w v B s e = every-always n f m w v (λ σ a. always-every n f q w v B e σ (λ k h. a k (bits-sub s k h)))
+pub always_mono : {n : ℕ} {f : Formula} {q m : ℕ} (w : ℕ) (v : Bool) → Bounded n f → Sub q m → always n f q w v ≡ true → always n f m w v ≡ true
+always_mono {n} {f} {q} {m} w v B s e = every-always n f m w v (λ σ a. always-every n f q w v B e σ (λ k h. a k (bits_sub s k h)))
 
 -- ---- what is left by reduce
 
@@ -123,8 +123,8 @@ module _ (n : ℕ) (f : Formula) (w : ℕ) (v : Bool) where
   reduce-keep k m e = rw e
 
   -- a variable that m does not have
-  pub reduce-skip : (k m : ℕ) → bit m k ≡ false → reduce n f w v (suc k) m ≡ reduce n f w v k m
-  reduce-skip k m h =
+  pub reduce_skip : (k m : ℕ) → bit m k ≡ false → reduce n f w v (suc k) m ≡ reduce n f w v k m
+  reduce_skip k m h =
       by_bool (always n f (without m (2 ^ k)) w v)
       (λ e. reduce-drop k m e ∙ ap (reduce n f w v k) (without-none m k h))
       (λ e. reduce-keep k m e)
@@ -148,29 +148,29 @@ module _ (n : ℕ) (f : Formula) (w : ℕ) (v : Bool) where
   kept : (k m q : ℕ) → Bounded n f → Sub q m → always n f (without m (2 ^ k)) w v ≡ false → always n f (without q (2 ^ k)) w v ≡ false
   kept k m q B s e =
       by_bool (always n f (without q (2 ^ k)) w v)
-      (λ h. clash (always n f (without m (2 ^ k)) w v) (always-mono w v B (without-mono (2 ^ k) s) h) e)
+      (λ h. clash (always n f (without m (2 ^ k)) w v) (always_mono w v B (without_mono (2 ^ k) s) h) e)
       (λ h. h)
 
   gone : (k m : ℕ) → bit (without m (2 ^ k)) k ≡ false
   gone k m = bit-without m (2 ^ k) k ∙ rw (bit-pow k k, eq-eqb k k refl) (and-false (bit m k))
 
   -- without any one of its variables below k, what is left does not force v
-  pub reduce-needs : Bounded n f → (k m j : ℕ) → j < k → bit (reduce n f w v k m) j ≡ true → always n f (without (reduce n f w v k m) (2 ^ j)) w v ≡ false
+  pub reduce_needs : Bounded n f → (k m j : ℕ) → j < k → bit (reduce n f w v k m) j ≡ true → always n f (without (reduce n f w v k m) (2 ^ j)) w v ≡ false
   unfolding reduce
-  reduce-needs B zero m j l h = absurd (omega arith)
-  reduce-needs B (suc k) m j l h =
+  reduce_needs B zero m j l h = absurd (omega arith)
+  reduce_needs B (suc k) m j l h =
       by_bool (always n f (without m (2 ^ k)) w v)
       (λ e. rw e (by_bool (eqb j k)
-      (λ i. clash (bit (without m (2 ^ k)) j) (bits-sub (reduce-sub k (without m (2 ^ k))) j (rw e at h)) (rw (eqb-true j k i) (gone k m)))
-      (λ i. reduce-needs B k (without m (2 ^ k)) j (omega tests) (rw e at h))))
+      (λ i. clash (bit (without m (2 ^ k)) j) (bits_sub (reduce-sub k (without m (2 ^ k))) j (rw e at h)) (rw (eqb-true j k i) (gone k m)))
+      (λ i. reduce_needs B k (without m (2 ^ k)) j (omega tests) (rw e at h))))
       (λ e. rw e (by_bool (eqb j k)
       (λ i. rw (eqb-true j k i) (kept k m (reduce n f w v k m) B (reduce-sub k m) e))
-      (λ i. reduce-needs B k m j (omega tests) (rw e at h))))
+      (λ i. reduce_needs B k m j (omega tests) (rw e at h))))
 
   -- so no variable of it is idle: some assignment that agrees on the others gives f the other truth
-  pub reduce-idle : Bounded n f → (m j : ℕ) → j < n → bit (reduce n f w v n m) j ≡ true
+  pub reduce_idle : Bounded n f → (m j : ℕ) → j < n → bit (reduce n f w v n m) j ≡ true
       → (σ : Assignment) × On (bit (without (reduce n f w v n m) (2 ^ j))) σ (bit w) × (truth f σ ≡ not v)
-  reduce-idle B m j l h = always-fails n f (without (reduce n f w v n m) (2 ^ j)) w v (reduce-needs B n m j l h)
+  reduce_idle B m j l h = always-fails n f (without (reduce n f w v n m) (2 ^ j)) w v (reduce_needs B n m j l h)
 
 -- ---- why as a whole, from ASK's verdict
 
@@ -183,46 +183,46 @@ module _ {n : ℕ} {f : Formula} {mask values : ℕ} (E : Entries n f mask value
   verdict = ask n f mask values
 
   abbrev start : ℕ
-  start = startMask n f verdict.holds mask
+  start = start_mask n f verdict.holds mask
 
   -- it starts inside the free variables
-  start-sub : Sub start (freeMask n f)
-  unfolding startMask
-  start-sub = by_bool verdict.holds (λ e. rw e (sub_refl (freeMask n f))) (λ e. rw e E.opened)
+  start-sub : Sub start (free_mask n f)
+  unfolding start_mask
+  start-sub = by_bool verdict.holds (λ e. rw e (sub_refl (free_mask n f))) (λ e. rw e E.opened)
 
   -- and forces the verdict
-  start-always : always n f start (startWord verdict values) verdict.holds ≡ true
-  unfolding startMask startWord
+  start-always : always n f start (start_word verdict values) verdict.holds ≡ true
+  unfolding start_mask start_word
   start-always =
       by_bool verdict.holds
-      (λ e. rw e (every-always n f (freeMask n f) verdict.word true
+      (λ e. rw e (every-always n f (free_mask n f) verdict.word true
       (λ σ a. coincide f σ (bit verdict.word) (λ k h. a k (bit-free E.bounded k ∙ h)) ∙ (ask-word E e).holds)))
       (λ e. rw e (every-always n f mask values false (ask-never E e)))
 
   -- the reason forces the verdict's truth
-  pub why-forces : (σ : Assignment) → On (bit (why n f mask values).word) σ (bit (startWord verdict values)) → truth f σ ≡ verdict.holds
+  pub why_forces : (σ : Assignment) → On (bit (why n f mask values).word) σ (bit (start_word verdict values)) → truth f σ ≡ verdict.holds
   unfolding why
-  why-forces =
-      always-every n f (why n f mask values).word (startWord verdict values) verdict.holds E.bounded
-      (reduce-always n f (startWord verdict values) verdict.holds n start start-always)
+  why_forces =
+      always-every n f (why n f mask values).word (start_word verdict values) verdict.holds E.bounded
+      (reduce-always n f (start_word verdict values) verdict.holds n start start-always)
 
   why-start : Sub (why n f mask values).word start
   unfolding why
-  why-start = reduce-sub n f (startWord verdict values) verdict.holds n start
+  why-start = reduce-sub n f (start_word verdict values) verdict.holds n start
 
   -- it has free variables only
-  pub why-free : Sub (why n f mask values).word (freeMask n f)
+  pub why-free : Sub (why n f mask values).word (free_mask n f)
   why-free = sub_trans why-start start-sub
 
   -- and on no entered ones only
   pub why-entered : verdict.holds ≡ false → Sub (why n f mask values).word mask
-  unfolding startMask
+  unfolding start_mask
   why-entered e = rw e at why-start
 
   -- no variable of it is idle
-  pub why-idle : (k : ℕ) → bit (why n f mask values).word k ≡ true
-      → (σ : Assignment) × On (bit (without (why n f mask values).word (2 ^ k))) σ (bit (startWord verdict values)) × (truth f σ ≡ not verdict.holds)
+  pub why_idle : (k : ℕ) → bit (why n f mask values).word k ≡ true
+      → (σ : Assignment) × On (bit (without (why n f mask values).word (2 ^ k))) σ (bit (start_word verdict values)) × (truth f σ ≡ not verdict.holds)
   unfolding why
-  why-idle k h =
-      let l = and_both (ltb k n) (free f k) (sym (bit-freeMask n f k) ∙ bits-sub why-free k h) in
-      reduce-idle n f (startWord verdict values) verdict.holds E.bounded start k (ltb-true k n l.0) h
+  why_idle k h =
+      let l = and_both (ltb k n) (free f k) (sym (bit-free_mask n f k) ∙ bits_sub why-free k h) in
+      reduce_idle n f (start_word verdict values) verdict.holds E.bounded start k (ltb-true k n l.0) h

@@ -1,7 +1,7 @@
 -- What a C host gets from one call: the number that is returned, and the answers at exit, for every input. Assumes nothing.
 use Rattle.std.specs.Prelude.{ℕ, ◌+◌, ◌*◌, ◌/◌, ◌%◌, ◌<◌, ◌≡◌, List, ◌++◌, length, drop}
 use Rattle.std.proofs.Common.{arith, ◌∙◌, ap₂}
-use Rattle.form.specs.Form.{answerStart}
+use Rattle.form.specs.Form.{answer_start}
 use Rattle.form.specs.Form as Sizes
 use Rattle.form.specs.declared.Form.{Form}
 use Rattle.form.specs.declared.Form.TheVariants.{Narrow, Wide}
@@ -21,26 +21,26 @@ pub record Host (sheet : Sheet) (script ans ans' : List ℕ) (r : ℕ) : Type 0 
   -- refused: the answers are untouched
   pub untouched : 0 < (refusal sheet script (length ans)).number → ans' ≡ ans
   -- accepted: the reference model's bytes, then what was behind them
-  pub written : (refusal sheet script (length ans)).number ≡ 0 → ans' ≡ answers sheet.form (book sheet) script ++ drop (answerStart sheet.form (lines script)) ans
+  pub written : (refusal sheet script (length ans)).number ≡ 0 → ans' ≡ answers sheet.form (book sheet) script ++ drop (answer_start sheet.form (lines script)) ans
 
-pub host-run : {sheet : Sheet} {script ans under over ans' under' over' : List ℕ} {number place cu co r : ℕ}
+pub host_run : {sheet : Sheet} {script ans under over ans' under' over' : List ℕ} {number place cu co r : ℕ}
     → Run sheet script ans under over ans' under' over' number place cu co → r ≡ result_of sheet.form number place → Host sheet script ans ans' r
-host-run {sheet} g e = record {
+host_run {sheet} g e = record {
   told = e ∙ ap₂ (result_of sheet.form) g.answered.number_is g.answered.place_is;
   untouched = λ h. (g.answered.untouched (omega (arith, g.answered.number_is))).0;
   written = λ h. g.answered.written (g.answered.number_is ∙ h);
 }
 
 -- what a result is divided by
-abbrev pub resultUnit : Form → ℕ
-resultUnit Narrow = 256
-resultUnit Wide = 65536
+abbrev pub result_unit : Form → ℕ
+result_unit Narrow = 256
+result_unit Wide = 65536
 
-parts : (F : Form) (n k : ℕ) → k < Sizes.mostFrames F → (result_of F n k / resultUnit F ≡ n) × (result_of F n k % resultUnit F ≡ k)
+parts : (F : Form) (n k : ℕ) → k < Sizes.most_frames F → (result_of F n k / result_unit F ≡ n) × (result_of F n k % result_unit F ≡ k)
 parts Narrow n k h = (omega arith, omega arith)
 parts Wide n k h = (omega arith, omega arith)
 
 -- The host's macros give number and place back: the number returned by the unit, and what is left over.
-pub host-decodes : {sheet : Sheet} {script ans ans' : List ℕ} {r : ℕ} → Host sheet script ans ans' r
-    → (r / resultUnit sheet.form ≡ (refusal sheet script (length ans)).number) × (r % resultUnit sheet.form ≡ (refusal sheet script (length ans)).place)
-host-decodes {sheet} {script} {ans} h = rw h.told (parts sheet.form _ _ (place-below sheet script (length ans)))
+pub host_decodes : {sheet : Sheet} {script ans ans' : List ℕ} {r : ℕ} → Host sheet script ans ans' r
+    → (r / result_unit sheet.form ≡ (refusal sheet script (length ans)).number) × (r % result_unit sheet.form ≡ (refusal sheet script (length ans)).place)
+host_decodes {sheet} {script} {ans} h = rw h.told (parts sheet.form _ _ (place-below sheet script (length ans)))

@@ -4,7 +4,7 @@
 ghost use Rattle.std.specs.Prelude.{◌≡◌, true, ◌+◌, ◌<◌, ◌≤◌, length};
 ghost use Rattle.words.specs.Word.{bit};
 ghost use Rattle.formula.specs.Reason.{Explains};
-ghost use Rattle.net.specs.Layout.{HasNode, Ground, formulaAt, val};
+ghost use Rattle.net.specs.Layout.{HasNode, Ground, formula_at, val};
 ghost use Rattle.judge.specs.Judge.{Right, Joined};
 ghost use Rattle.implicant.specs.Implicant.{Shows};
 
@@ -116,7 +116,7 @@ pub fn implicant(
     scratch: &mut [u64],
 ) -> u64
     requires { Ground net.now × HasNode net.now a × (length net.now ≤ 67 + length scratch.old) × (0 < value) }
-    ensures { (Explains (formulaAt net.now a) (val value) (bit reason) (bit word) → Explains (formulaAt net.now a) (val value) (bit result) (bit word)) × (length scratch.new ≡ length scratch.old) }
+    ensures { (Explains (formula_at net.now a) (val value) (bit reason) (bit word) → Explains (formula_at net.now a) (val value) (bit result) (bit word)) × (length scratch.new ≡ length scratch.old) }
 {
     if least(net, a, reason, own) {
         return reason;

@@ -4,16 +4,16 @@ use Rattle.std.proofs.Common.{arith, sym, ◌∙◌, ap}
 use Rattle.std.proofs.Math.Bool.{and-true, and-false}
 use Rattle.std.specs.Int.Bits.{bit_and, bit_or}
 use Rattle.std.proofs.lemmas.Nat.{and_comm}
-use Rattle.words.specs.Logic.{by_bool, or_left, or_right, or_cases, and_both, not-flip}
+use Rattle.words.specs.Logic.{by_bool, or_left, or_right, or_cases, and_both, not_flip}
 use Rattle.words.specs.Word.{bit, bit-and, bit-or, ext}
-use Rattle.words.specs.Mask.{Sub, Apart, without, bit-without, without-sum, without_sub, without-apart, without-mono, sub-bits, bits-sub, bits-apart, apart-bits, apart-sub, apart-sym, or-sub, or_apart, or-sum, sub_trans, sub-or-left}
+use Rattle.words.specs.Mask.{Sub, Apart, without, bit-without, without-sum, without_sub, without-apart, without_mono, sub-bits, bits_sub, bits_apart, apart-bits, apart-sub, apart-sym, or-sub, or_apart, or-sum, sub_trans, sub-or-left}
 use Rattle.formula.specs.Assignment.{On, by_value}
 use Rattle.formula.specs.Formula.{truth, free}
 use Rattle.net.specs.Net.{Net, Clear}
-use Rattle.net.specs.Layout.{packed, formulaAt, val}
+use Rattle.net.specs.Layout.{packed, formula_at, val}
 use Rattle.judge.specs.Judge.{Judged}
 use Rattle.judge.specs.JudgeLaws.{judged-more}
-use Rattle.imply.specs.Halves.{apart-inside, bit-plus, or-none, off-sub}
+use Rattle.imply.specs.Halves.{apart-inside, bit_plus, or-none, off-sub}
 use Rattle.imply.specs.Posed.{Met, Lost, Free, Covers, Posed}
 use Rattle.imply.specs.Required.{Forcing}
 use Rattle.imply.specs.Gather.{Gathered}
@@ -22,14 +22,14 @@ use Rattle.imply.specs.Gather.{Gathered}
 module _ {net : List ℕ} {a t loose m w X U rest m' w' : ℕ} {whys : List ℕ}
     (F : Forcing net a t loose m w X U whys) (P : Free loose m w) (er : rest ≡ without loose X) (em : m' ≡ bit_or m X) (ew : w' ≡ bit_or w U) where
   U-loose : Sub U loose
-  U-loose = sub_trans F.valued F.loose-only
+  U-loose = sub_trans F.valued F.loose_only
 
   w-off : (k : ℕ) → bit loose k ≡ true → bit w k ≡ false
-  w-off k e = bits-apart (apart-sym P.clear) k e
+  w-off k e = bits_apart (apart-sym P.clear) k e
 
   -- w' at X, and off it
   at-forced : (k : ℕ) → bit X k ≡ true → bit w' k ≡ bit U k
-  at-forced k e = rw (ew, bit-or w U k, w-off k (bits-sub F.loose-only k e))
+  at-forced k e = rw (ew, bit-or w U k, w-off k (bits_sub F.loose_only k e))
 
   off-forced : (k : ℕ) → bit X k ≡ false → bit w' k ≡ bit w k
   off-forced k e = rw (ew, bit-or w U k) (or-none (bit w k) (bit U k) (off-sub F.valued k e))
@@ -56,17 +56,17 @@ module _ {net : List ℕ} {a t loose m w X U rest m' w' : ℕ} {whys : List ℕ}
       X-rest : Apart X rest
       X-rest = rw er (apart-sym (without-apart loose X))
 
-  pub forced-less : 0 < X → rest < loose
-  forced-less n = omega (arith, er, without-sum loose X, and_comm loose X, F.loose-only.inside)
+  pub forced_less : 0 < X → rest < loose
+  forced_less n = omega (arith, er, without-sum loose X, and_comm loose X, F.loose_only.inside)
 
   pub forced-judged : {cells : List ℕ} → Judged net m w cells → Judged net m' w' cells
-  forced-judged j = judged-more (rw em (sub-or-left m X)) (λ k e. sym (off-forced k (off-sub F.loose-only k (bits-apart P.apart k e)))) j
+  forced-judged j = judged-more (rw em (sub-or-left m X)) (λ k e. sym (off-forced k (off-sub F.loose_only k (bits_apart P.apart k e)))) j
 
   -- assigned or loose: the same variables
   pub forced-same : bit_or m' rest ≡ bit_or m loose
   forced-same =
       ext (bit_or m' rest) (bit_or m loose) (λ x.
-      bit-or m' rest x ∙ rw (em, bit-or m X x, bit-rest x, bit-or m loose x) (go (bit X x) (bit m x) (bit loose x) (bits-sub F.loose-only x)))
+      bit-or m' rest x ∙ rw (em, bit-or m X x, bit-rest x, bit-or m loose x) (go (bit X x) (bit m x) (bit loose x) (bits_sub F.loose_only x)))
     where
       go : (p q r : Bool) → (p ≡ true → r ≡ true) → (q || p) || (r && not p) ≡ q || r
       go true true r h = refl
@@ -75,8 +75,8 @@ module _ {net : List ℕ} {a t loose m w X U rest m' w' : ℕ} {whys : List ℕ}
       go false false true h = refl
       go false false false h = refl
 
-  pub forced-covers : Covers net a (bit_or m loose) → Covers net a (bit_or m' rest)
-  forced-covers c = rw forced-same c
+  pub forced_covers : Covers net a (bit_or m loose) → Covers net a (bit_or m' rest)
+  forced_covers c = rw forced-same c
 
   pub forced-clear : Clear (packed net) a (bit_or m loose) → Clear (packed net) a (bit_or m' rest)
   forced-clear c = rw forced-same c
@@ -84,10 +84,10 @@ module _ {net : List ℕ} {a t loose m w X U rest m' w' : ℕ} {whys : List ℕ}
   -- a reason of assigned variables holds of every word that differs in loose variables only
   agrees : {r z : ℕ} → Sub r m → Sub z loose → On (bit r) (bit (w + z)) (bit w)
   agrees {r} {z} s i k e =
-      bit-plus (apart-sub P.clear i) k ∙ or-none (bit w k) (bit z k) (off-sub i k (bits-apart P.apart k (bits-sub s k e)))
+      bit_plus (apart-sub P.clear i) k ∙ or-none (bit w k) (bit z k) (off-sub i k (bits_apart P.apart k (bits_sub s k e)))
 
   -- a word with the truth has the forced values
-  split : {z : ℕ} → Sub z loose → truth (formulaAt net a) (bit (w + z)) ≡ val t → bit_and z X ≡ U
+  split : {z : ℕ} → Sub z loose → truth (formula_at net a) (bit (w + z)) ≡ val t → bit_and z X ≡ U
   split {z} i e =
       ext (bit_and z X) U (λ k. bit-and z X k ∙ by_bool (bit X k)
       (λ q. rw q (and-true (bit z k)) ∙ here k q)
@@ -95,39 +95,39 @@ module _ {net : List ℕ} {a t loose m w X U rest m' w' : ℕ} {whys : List ℕ}
     where
       here : (k : ℕ) → bit X k ≡ true → bit z k ≡ bit U k
       here k q =
-          ap (λ (b : Bool). b || bit z k) (sym (w-off k (bits-sub F.loose-only k q)))
-          ∙ sym (bit-plus (apart-sub P.clear i) k)
+          ap (λ (b : Bool). b || bit z k) (sym (w-off k (bits_sub F.loose_only k q)))
+          ∙ sym (bit_plus (apart-sub P.clear i) k)
           ∙ (F.each k q).forces (bit (w + z)) (agrees (F.each k q).assigned i) e
 
-  pub forced-met : {free word r : ℕ} → Met (formulaAt net a) (val t) free rest w' word r → Met (formulaAt net a) (val t) free loose w word r
-  forced-met {word = word} h =
+  pub forced_met : {free word r : ℕ} → Met (formula_at net a) (val t) free rest w' word r → Met (formula_at net a) (val t) free loose w word r
+  forced_met {word = word} h =
       record {
         explains = h.explains;
         chosen = h.chosen + U;
-        inside = rw (← or-sum apart-chosen) (or-sub (sub_trans h.inside rest-sub) U-loose);
+        inside = rw (← or-sum apart_chosen) (or-sub (sub_trans h.inside rest-sub) U-loose);
         is = omega (arith, h.is, w-sum);
-        least = λ s z i l. by_value (val t) (truth (formulaAt net a) (bit (w + z)))
+        least = λ s z i l. by_value (val t) (truth (formula_at net a) (bit (w + z)))
             (λ e.
             let u : w + z ≡ w' + without z X = omega (arith, w-sum, without-sum z X, split i e) in
-            ap (λ (y : ℕ). truth (formulaAt net a) (bit y)) u ∙ h.least (sub_trans rest-sub s) (without z X) (rw er (without-mono X i)) (omega (arith, u)))
+            ap (λ (y : ℕ). truth (formula_at net a) (bit y)) u ∙ h.least (sub_trans rest-sub s) (without z X) (rw er (without_mono X i)) (omega (arith, u)))
             (λ e. e);
       }
     where
-      apart-chosen : Apart h.chosen U
-      apart-chosen = apart-sub (apart-inside h.inside (rw er (without-apart loose X))) F.valued
+      apart_chosen : Apart h.chosen U
+      apart_chosen = apart-sub (apart-inside h.inside (rw er (without-apart loose X))) F.valued
 
   -- q has the reasons of the forced variables of r
-  pub forced-lost : {r q z : ℕ} → Lost (formulaAt net a) (val t) rest w' r
-      → ((x : ℕ) → bit r x ≡ true → bit X x ≡ true → Sub (get_or whys x 0) q) → Sub q m → ((y : ℕ) → bit q y ≡ true → free (formulaAt net a) y ≡ true)
-      → z ≡ bit_or (without r X) q → Lost (formulaAt net a) (val t) loose w z
+  pub forced-lost : {r q z : ℕ} → Lost (formula_at net a) (val t) rest w' r
+      → ((x : ℕ) → bit r x ≡ true → bit X x ≡ true → Sub (get_or whys x 0) q) → Sub q m → ((y : ℕ) → bit q y ≡ true → free (formula_at net a) y ≡ true)
+      → z ≡ bit_or (without r X) q → Lost (formula_at net a) (val t) loose w z
   forced-lost {r} {q} {z} h g s i ez =
       rw ez (record {
         explains = record {
           inside = λ k e. or_cases (bit (without r X) k) (bit q k) (sym (bit-or (without r X) q k) ∙ e) (λ b. h.explains.inside k (kept k b).0) (i k);
-          forces = λ σ n. by_value (val t) (truth (formulaAt net a) σ)
+          forces = λ σ n. by_value (val t) (truth (formula_at net a) σ)
               (λ e. h.explains.forces σ (λ k b. by_bool (bit X k)
               (λ x.
-              (F.each k x).forces σ (λ y c. n y (bit-or (without r X) q y ∙ or_right (bit (without r X) y) (bit q y) (bits-sub (g k b x) y c))) e
+              (F.each k x).forces σ (λ y c. n y (bit-or (without r X) q y ∙ or_right (bit (without r X) y) (bit q y) (bits_sub (g k b x) y c))) e
               ∙ sym (at-forced k x))
               (λ x.
               n k (bit-or (without r X) q k ∙ or_left (bit (without r X) k) (bit q k) (bit-without r X k ∙ rw (b, x)))
@@ -135,36 +135,36 @@ module _ {net : List ℕ} {a t loose m w X U rest m' w' : ℕ} {whys : List ℕ}
               (λ e. e);
         };
         apart = or_apart
-            (apart-bits (without r X) loose (λ k e. let b = kept k e in rest-off k (bits-apart h.apart k b.0) b.1))
+            (apart-bits (without r X) loose (λ k e. let b = kept k e in rest-off k (bits_apart h.apart k b.0) b.1))
             (apart-inside s P.apart);
       })
     where
       kept : (k : ℕ) → bit (without r X) k ≡ true → (bit r k ≡ true) × (bit X k ≡ false)
-      kept k e = let b = and_both (bit r k) (not (bit X k)) (sym (bit-without r X k) ∙ e) in (b.0, not-flip (bit X k) true b.1)
+      kept k e = let b = and_both (bit r k) (not (bit X k)) (sym (bit-without r X k) ∙ e) in (b.0, not_flip (bit X k) true b.1)
 
 -- ---- as the code has them
 
 module _ {net : List ℕ} {a t loose m w X U rest m' w' : ℕ} {cells whys : List ℕ}
     (P : Posed net a t loose m w cells) (F : Forcing net a t loose m w X U whys) (er : rest ≡ without loose X) (em : m' ≡ bit_or m X) (ew : w' ≡ bit_or w U) where
-  pub posed-forced : Posed net a t rest m' w' cells
-  posed-forced =
+  pub posed_forced : Posed net a t rest m' w' cells
+  posed_forced =
       record {
         ground = P.ground;
         here = P.here;
-        target-some = P.target-some;
-        target-low = P.target-low;
+        target_some = P.target_some;
+        target_low = P.target_low;
         free = forced-free F P.free er em ew;
-        covers = forced-covers F P.free er em ew P.covers;
+        covers = forced_covers F P.free er em ew P.covers;
         clear = forced-clear F P.free er em ew P.clear;
         judged = forced-judged F P.free er em ew P.judged;
       }
 
-  pub pushed-lost : {r both q s z : ℕ} → Lost (formulaAt net a) (val t) rest w' r → both ≡ bit_and r X → Gathered whys both q → s ≡ without r X → z ≡ bit_or s q
-      → Lost (formulaAt net a) (val t) loose w z
+  pub pushed-lost : {r both q s z : ℕ} → Lost (formula_at net a) (val t) rest w' r → both ≡ bit_and r X → Gathered whys both q → s ≡ without r X → z ≡ bit_or s q
+      → Lost (formula_at net a) (val t) loose w z
   pushed-lost {r} {both} {q} {s} {z} h eb g es ez =
       forced-lost F P.free er em ew h
       (λ x b c. g.all x (ap (λ (i : ℕ). bit i x) eb ∙ bit-and r X x ∙ rw (b, c)))
-      (sub-bits q m (λ y e. let o = g.from y e in bits-sub (F.each o.0 (forced o.0 o.1)).assigned y o.2))
+      (sub-bits q m (λ y e. let o = g.from y e in bits_sub (F.each o.0 (forced o.0 o.1)).assigned y o.2))
       (λ y e. let o = g.from y e in (F.each o.0 (forced o.0 o.1)).inside y o.2)
       (ez ∙ ap (λ (i : ℕ). bit_or i q) es)
     where

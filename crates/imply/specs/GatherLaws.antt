@@ -5,7 +5,7 @@ use Rattle.std.proofs.Math.Bool.{and-true}
 use Rattle.std.specs.Int.Bits.{bit_or}
 use Rattle.words.specs.Logic.{by_bool, clash, or_cases}
 use Rattle.words.specs.Word.{bit, bit-or, bit-none, bit-pow}
-use Rattle.words.specs.Mask.{Sub, Top, without, bit-without, without_sub, bits-sub, sub_trans, sub_refl, sub-or-left, sub-or-right, top_bit}
+use Rattle.words.specs.Mask.{Sub, Top, without, bit-without, without_sub, bits_sub, sub_trans, sub_refl, sub-or-left, sub-or-right, top_bit}
 use Rattle.imply.specs.Gather.{Gathered}
 
 -- r has the reasons of those variables of `some` that are not left
@@ -19,8 +19,8 @@ gather_none whys some = record { left-sub = sub_refl some; all = λ x e n. clash
 
 module _ {whys : List ℕ} {some left r : ℕ} (G : Gathering whys some left r) where
   -- x, whose word is p, is the next
-  pub gather-more : {x p left' r' : ℕ} → Top left x → p ≡ 2 ^ x → left' ≡ without left p → r' ≡ bit_or r (get_or whys x 0) → Gathering whys some left' r'
-  gather-more {x} {p} {left'} {r'} T ep el er =
+  pub gather_more : {x p left' r' : ℕ} → Top left x → p ≡ 2 ^ x → left' ≡ without left p → r' ≡ bit_or r (get_or whys x 0) → Gathering whys some left' r'
+  gather_more {x} {p} {left'} {r'} T ep el er =
       record {
         left-sub = rw el (sub_trans (without_sub left p) G.left-sub);
         all = λ k e n. by_bool (eqb k x)
@@ -28,7 +28,7 @@ module _ {whys : List ℕ} {some left r : ℕ} (G : Gathering whys some left r) 
             (λ q. rw er (sub_trans (G.all k e (still k q n)) (sub-or-left r (get_or whys x 0))));
         from = λ y e. or_cases (bit r y) (bit (get_or whys x 0) y) (sym (bit-or r (get_or whys x 0) y) ∙ ap (λ (i : ℕ). bit i y) (sym er) ∙ e)
             (λ z. G.from y z)
-            (λ z. (x, bits-sub G.left-sub x (top_bit T), z));
+            (λ z. (x, bits_sub G.left-sub x (top_bit T), z));
       }
     where
       still : (k : ℕ) → eqb k x ≡ false → bit left' k ≡ false → bit left k ≡ false

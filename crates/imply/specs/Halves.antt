@@ -5,30 +5,30 @@ use Rattle.std.proofs.Math.Bool.{and-true, and-false}
 use Rattle.std.specs.Int.Bits.{bit_or}
 use Rattle.words.specs.Logic.{by_bool, clash, or_right}
 use Rattle.words.specs.Word.{bit, bit-or, bit-pow, ext}
-use Rattle.words.specs.Mask.{Sub, Apart, Top, without, bit-without, bits-sub, bits-apart, apart-bits, apart-sub, apart-sym, sub_trans, without_sub, without-apart, or-sum, sub-le}
-use Rattle.words.specs.Mask.{top_bit, top-rest, sub-split, add-one-sub, one-sub, none-sub, or_apart, put, placed, placed-put, placed_at, placed-other, without-none}
+use Rattle.words.specs.Mask.{Sub, Apart, Top, without, bit-without, bits_sub, bits_apart, apart-bits, apart-sub, apart-sym, sub_trans, without_sub, without-apart, or-sum, sub-le}
+use Rattle.words.specs.Mask.{top_bit, top_rest, sub-split, add-one-sub, one-sub, none-sub, or_apart, put, placed, placed-put, placed_at, placed-other, without-none}
 use Rattle.cube.specs.Cube.{Fixed}
 use Rattle.formula.specs.Formula.{Formula, truth}
 use Rattle.formula.specs.Reason.{Explains}
-use Rattle.formula.specs.ReasonWord.{word-branch, word-skip}
+use Rattle.formula.specs.ReasonWord.{word_branch, word_skip}
 use Rattle.imply.specs.Posed.{Found, Met, Lost, Free}
 
 -- ---- a value that is known
 
-pub met-known : {f : Formula} {v : Bool} {free w r : ℕ} (loose : ℕ) → Explains f v (bit r) (bit w) → Met f v free loose w w r
-met-known loose e = record { explains = e; chosen = 0; inside = none-sub loose; is = omega arith; least = λ s z i l. absurd (omega arith) }
+pub met_known : {f : Formula} {v : Bool} {free w r : ℕ} (loose : ℕ) → Explains f v (bit r) (bit w) → Met f v free loose w w r
+met_known loose e = record { explains = e; chosen = 0; inside = none-sub loose; is = omega arith; least = λ s z i l. absurd (omega arith) }
 
 -- ---- from one to the other
 
-pub met-found : {f : Formula} {v : Bool} {free loose w word r : ℕ} → Met f v free loose w word r → Sub loose free → Found f v loose w word r
-met-found h s = record { explains = h.explains; chosen = h.chosen; inside = h.inside; is = h.is; least = h.least s }
+pub met_found : {f : Formula} {v : Bool} {free loose w word r : ℕ} → Met f v free loose w word r → Sub loose free → Found f v loose w word r
+met_found h s = record { explains = h.explains; chosen = h.chosen; inside = h.inside; is = h.is; least = h.least s }
 
-pub found-met : {f : Formula} {v : Bool} {free loose w word r : ℕ} → Found f v loose w word r → Met f v free loose w word r
-found-met h = record { explains = h.explains; chosen = h.chosen; inside = h.inside; is = h.is; least = λ s. h.least }
+pub found_met : {f : Formula} {v : Bool} {free loose w word r : ℕ} → Found f v loose w word r → Met f v free loose w word r
+found_met h = record { explains = h.explains; chosen = h.chosen; inside = h.inside; is = h.is; least = λ s. h.least }
 
 -- for another reason
-pub met-other : {f : Formula} {v : Bool} {free loose w word r q : ℕ} → Met f v free loose w word r → (Explains f v (bit r) (bit word) → Explains f v (bit q) (bit word)) → Met f v free loose w word q
-met-other h e = record { explains = e h.explains; chosen = h.chosen; inside = h.inside; is = h.is; least = h.least }
+pub met_other : {f : Formula} {v : Bool} {free loose w word r q : ℕ} → Met f v free loose w word r → (Explains f v (bit r) (bit word) → Explains f v (bit q) (bit word)) → Met f v free loose w word q
+met_other h e = record { explains = e h.explains; chosen = h.chosen; inside = h.inside; is = h.is; least = h.least }
 
 -- ---- words that are apart
 
@@ -39,12 +39,12 @@ pub or-none : (p q : Bool) → q ≡ false → (p || q) ≡ p
 or-none true q e = refl
 or-none false q e = e
 
-pub bit-plus : {w z : ℕ} → Apart w z → (k : ℕ) → bit (w + z) k ≡ bit w k || bit z k
-bit-plus {w} {z} a k = ap (λ (x : ℕ). bit x k) (sym (or-sum a)) ∙ bit-or w z k
+pub bit_plus : {w z : ℕ} → Apart w z → (k : ℕ) → bit (w + z) k ≡ bit w k || bit z k
+bit_plus {w} {z} a k = ap (λ (x : ℕ). bit x k) (sym (or-sum a)) ∙ bit-or w z k
 
 -- a place that is not in m
 pub off-sub : {y m : ℕ} → Sub y m → (k : ℕ) → bit m k ≡ false → bit y k ≡ false
-off-sub {y} {m} h k e = by_bool (bit y k) (λ z. clash (bit m k) (bits-sub h k z) e) (λ z. z)
+off-sub {y} {m} h k e = by_bool (bit y k) (λ z. clash (bit m k) (bits_sub h k z) e) (λ z. z)
 
 pub off-mask : (w m k : ℕ) → bit m k ≡ false → bit (without w m) k ≡ bit w k
 off-mask w m k e = bit-without w m k ∙ ap (λ (y : Bool). bit w k && not y) e ∙ and-true (bit w k)
@@ -52,7 +52,7 @@ off-mask w m k e = bit-without w m k ∙ ap (λ (y : Bool). bit w k && not y) e 
 -- what a failed search says of every word that differs in loose variables only
 pub lost-at : {f : Formula} {v : Bool} {loose w r : ℕ} → Lost f v loose w r → Apart w loose → (z : ℕ) → Sub z loose → truth f (bit (w + z)) ≡ not v
 lost-at {w = w} {r = r} h d z i =
-    h.explains.forces (bit (w + z)) (λ k e. bit-plus (apart-sub d i) k ∙ or-none (bit w k) (bit z k) (bits-apart (apart-sub h.apart i) k e))
+    h.explains.forces (bit (w + z)) (λ k e. bit_plus (apart-sub d i) k ∙ or-none (bit w k) (bit z k) (bits_apart (apart-sub h.apart i) k e))
 
 -- ---- the two halves of the highest loose variable x
 
@@ -60,42 +60,42 @@ module _ {loose x w : ℕ} (t : Top loose x) (d : Apart w loose) where
   rest-sub : Sub (without loose (2 ^ x)) loose
   rest-sub = without_sub loose (2 ^ x)
 
-  x-apart : Apart w (2 ^ x)
-  x-apart = apart-sub d (one-sub x (top_bit t))
+  x_apart : Apart w (2 ^ x)
+  x_apart = apart-sub d (one-sub x (top_bit t))
 
   pub put_low : put w x false ≡ w
   unfolding put
-  put_low = without-none w x (bits-apart (apart-sym d) x (top_bit t))
+  put_low = without-none w x (bits_apart (apart-sym d) x (top_bit t))
 
   pub put-high : put w x true ≡ w + 2 ^ x
   unfolding put
-  put-high = or-sum x-apart
+  put-high = or-sum x_apart
 
   clear_up : {r : ℕ} → Apart r (without loose (2 ^ x)) → bit r x ≡ false → Apart r loose
   clear_up {r} a n = apart-bits r loose (λ k e. by_bool (eqb k x)
       (λ q. clash (bit r k) e (ap (bit r) (eqb-true k x q) ∙ n))
-      (λ q. go (bit loose k) (bit (2 ^ x) k) (sym (bit-without loose (2 ^ x) k) ∙ bits-apart a k e) (bit-pow x k ∙ q)))
+      (λ q. go (bit loose k) (bit (2 ^ x) k) (sym (bit-without loose (2 ^ x) k) ∙ bits_apart a k e) (bit-pow x k ∙ q)))
     where
       go : (p z : Bool) → (p && not z) ≡ false → z ≡ false → p ≡ false
       go true z h q = sym (ap not q) ∙ h
       go false z h q = refl
 
   -- 0 is met first
-  pub met-low : {f : Formula} {v : Bool} {free word r : ℕ} → Met f v free (without loose (2 ^ x)) w word r → Met f v free loose w word r
-  met-low h = record {
+  pub met_low : {f : Formula} {v : Bool} {free word r : ℕ} → Met f v free (without loose (2 ^ x)) w word r → Met f v free loose w word r
+  met_low h = record {
     explains = h.explains;
     chosen = h.chosen;
     inside = sub_trans h.inside rest-sub;
     is = h.is;
     least = λ s z i l. ⊎_elim
         (λ (j : Sub z (without loose (2 ^ x))). h.least (sub_trans rest-sub s) z j l)
-        (λ (q : (y : ℕ) × Sub y (without loose (2 ^ x)) × (z ≡ y + 2 ^ x)). absurd (omega (arith, q.2, h.is, sub-le h.inside, (top-rest t).0)))
+        (λ (q : (y : ℕ) × Sub y (without loose (2 ^ x)) × (z ≡ y + 2 ^ x)). absurd (omega (arith, q.2, h.is, sub-le h.inside, (top_rest t).0)))
         (sub-split x i);
   }
 
   -- 1 is met, by the least word if 0 is lost
-  pub met-up : {f : Formula} {v : Bool} {free word r : ℕ} → (Sub loose free → (q : ℕ) × Lost f v (without loose (2 ^ x)) w q) → Met f v free (without loose (2 ^ x)) (w + 2 ^ x) word r → Met f v free loose w word r
-  met-up {f = f} g h = record {
+  pub met_up : {f : Formula} {v : Bool} {free word r : ℕ} → (Sub loose free → (q : ℕ) × Lost f v (without loose (2 ^ x)) w q) → Met f v free (without loose (2 ^ x)) (w + 2 ^ x) word r → Met f v free loose w word r
+  met_up {f = f} g h = record {
     explains = h.explains;
     chosen = h.chosen + 2 ^ x;
     inside = add-one-sub x (top_bit t) h.inside;
@@ -109,21 +109,21 @@ module _ {loose x w : ℕ} (t : Top loose x) (d : Apart w loose) where
   }
 
   -- it may be tried first if x is not of `free`
-  met-high : {f : Formula} {v : Bool} {free word r : ℕ} → bit free x ≡ false → Met f v free (without loose (2 ^ x)) (w + 2 ^ x) word r → Met f v free loose w word r
-  met-high {free = free} n = met-up (λ s. clash (bit free x) (bits-sub s x (top_bit t)) n)
+  met_high : {f : Formula} {v : Bool} {free word r : ℕ} → bit free x ≡ false → Met f v free (without loose (2 ^ x)) (w + 2 ^ x) word r → Met f v free loose w word r
+  met_high {free = free} n = met_up (λ s. clash (bit free x) (bits_sub s x (top_bit t)) n)
 
   lost-first : {f : Formula} {v : Bool} {r : ℕ} → Lost f v (without loose (2 ^ x)) w r → bit r x ≡ false → Lost f v loose w r
   lost-first g n = record { explains = g.explains; apart = clear_up g.apart n }
 
-  lost-second : {f : Formula} {v : Bool} {r : ℕ} → Lost f v (without loose (2 ^ x)) (w + 2 ^ x) r → bit r x ≡ false → Lost f v loose w r
-  lost-second {r = r} g n = record { explains = word-skip r w x true n (rw put-high g.explains); apart = clear_up g.apart n }
+  lost_second : {f : Formula} {v : Bool} {r : ℕ} → Lost f v (without loose (2 ^ x)) (w + 2 ^ x) r → bit r x ≡ false → Lost f v loose w r
+  lost_second {r = r} g n = record { explains = word_skip r w x true n (rw put-high g.explains); apart = clear_up g.apart n }
 
   lost-both : {f : Formula} {v : Bool} {r q : ℕ} → Lost f v (without loose (2 ^ x)) w r → Lost f v (without loose (2 ^ x)) (w + 2 ^ x) q → Lost f v loose w (without (bit_or r q) (2 ^ x))
   lost-both {r = r} {q = q} g h = record {
-    explains = word-branch r w x q (rw put_low g.explains) (rw put-high h.explains);
+    explains = word_branch r w x q (rw put_low g.explains) (rw put-high h.explains);
     apart = clear_up
         (apart-inside (without_sub (bit_or r q) (2 ^ x)) (or_apart g.apart h.apart))
-        (bits-apart (apart-sym (without-apart (bit_or r q) (2 ^ x))) x (bit-pow x x ∙ eq-eqb x x refl));
+        (bits_apart (apart-sym (without-apart (bit_or r q) (2 ^ x))) x (bit-pow x x ∙ eq-eqb x x refl));
   }
 
 -- ---- the same as the code has them: p is the word of x, `rest` the loose variables without x, m', w' the cube with x fixed
@@ -139,19 +139,19 @@ module _ {loose m w x p rest : ℕ} (T : Top loose x) (l : x < 64) (ep : p ≡ 2
   high_is F = F.values ∙ placed-put w true l ∙ put-high T P.clear
 
   -- the value b is tried first: 1 only if x is not of `free`
-  pub first-met : {f : Formula} {v : Bool} {free : ℕ} (b : Bool) {m' w' word r : ℕ} → (b ≡ true → bit free x ≡ false) → Fixed 64 m w x b m' w' → Met f v free rest w' word r → Met f v free loose w word r
-  first-met false n F h = met-low T P.clear (rw (rest-is, low-is F) at h)
-  first-met true n F h = met-high T P.clear (n refl) (rw (rest-is, high_is F) at h)
+  pub first_met : {f : Formula} {v : Bool} {free : ℕ} (b : Bool) {m' w' word r : ℕ} → (b ≡ true → bit free x ≡ false) → Fixed 64 m w x b m' w' → Met f v free rest w' word r → Met f v free loose w word r
+  first_met false n F h = met_low T P.clear (rw (rest-is, low-is F) at h)
+  first_met true n F h = met_high T P.clear (n refl) (rw (rest-is, high_is F) at h)
 
   -- the other value is met behind it
-  pub second-met : {f : Formula} {v : Bool} {free : ℕ} (b : Bool) {m' w' m'' w'' q word r : ℕ} → Fixed 64 m w x b m' w' → Lost f v rest w' q → Fixed 64 m w x (not b) m'' w'' → Met f v free rest w'' word r → Met f v free loose w word r
-  second-met false {q = q} F g G h = met-up T P.clear (λ s. (q, rw (rest-is, low-is F) at g)) (rw (rest-is, high_is G) at h)
-  second-met true F g G h = met-low T P.clear (rw (rest-is, low-is G) at h)
+  pub second_met : {f : Formula} {v : Bool} {free : ℕ} (b : Bool) {m' w' m'' w'' q word r : ℕ} → Fixed 64 m w x b m' w' → Lost f v rest w' q → Fixed 64 m w x (not b) m'' w'' → Met f v free rest w'' word r → Met f v free loose w word r
+  second_met false {q = q} F g G h = met_up T P.clear (λ s. (q, rw (rest-is, low-is F) at g)) (rw (rest-is, high_is G) at h)
+  second_met true F g G h = met_low T P.clear (rw (rest-is, low-is G) at h)
 
   -- one of them fails without x
   pub half-lost : {f : Formula} {v : Bool} (b : Bool) {m' w' r : ℕ} → Fixed 64 m w x b m' w' → Lost f v rest w' r → bit r x ≡ false → Lost f v loose w r
   half-lost false F h n = lost-first T P.clear (rw (rest-is, low-is F) at h) n
-  half-lost true F h n = lost-second T P.clear (rw (rest-is, high_is F) at h) n
+  half-lost true F h n = lost_second T P.clear (rw (rest-is, high_is F) at h) n
 
   -- both fail
   pub both-lost : {f : Formula} {v : Bool} (b : Bool) {m' w' m'' w'' q r z : ℕ} → Fixed 64 m w x b m' w' → Lost f v rest w' q → Fixed 64 m w x (not b) m'' w'' → Lost f v rest w'' r → z ≡ without (bit_or q r) p → Lost f v loose w z
@@ -171,10 +171,10 @@ module _ {loose m w x p rest : ℕ} (L : bit loose x ≡ true) (l : x < 64) (ep 
   half-apart : (y : ℕ) (b : Bool) → Apart y loose → Apart (placed 64 y x b) rest
   half-apart y b d = rw (er, ep) (apart-bits (placed 64 y x b) (without loose (2 ^ x)) (λ k e. by_bool (eqb k x)
       (λ q. bit-without loose (2 ^ x) k ∙ rw (bit-pow x k, q) (and-false (bit loose k)))
-      (λ q. bit-without loose (2 ^ x) k ∙ rw (bits-apart d k (sym (placed-other 64 y x b k q) ∙ e)))))
+      (λ q. bit-without loose (2 ^ x) k ∙ rw (bits_apart d k (sym (placed-other 64 y x b k q) ∙ e)))))
 
   pub half-clear : bit m x ≡ false
-  half-clear = bits-apart (apart-sym P.apart) x L
+  half-clear = bits_apart (apart-sym P.apart) x L
 
   pub half-free : {b : Bool} {m' w' : ℕ} → Fixed 64 m w x b m' w' → Free rest m' w'
   half-free {b} F = record { apart = rw F.mask (half-apart m true P.apart); clear = rw F.values (half-apart w b P.clear) }

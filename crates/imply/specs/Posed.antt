@@ -6,7 +6,7 @@ use Rattle.words.specs.Mask.{Sub, Apart}
 use Rattle.formula.specs.Formula.{Formula, truth, free}
 use Rattle.formula.specs.Reason.{Explains}
 use Rattle.net.specs.Net.{Clear}
-use Rattle.net.specs.Layout.{framesOf, freeOf, packed, formulaAt, val, Ground}
+use Rattle.net.specs.Layout.{frames_of, free_of, packed, formula_at, val, Ground}
 use Rattle.judge.specs.Judge.{Judged}
 
 -- found: the word gives f the truth v because of the variables of r; it is w and some variables of `loose`, and no smaller one does
@@ -37,7 +37,7 @@ Searched f free t loose w false word r = Lost f (val t) loose w r
 
 -- node a was; the word found is the least where all of `loose` are free in the last frame
 abbrev pub Solved : List ℕ → ℕ → ℕ → ℕ → ℕ → Bool → ℕ → ℕ → Type 0
-Solved net a t loose w found word r = Searched (formulaAt net a) (freeOf net) t loose w found word r
+Solved net a t loose w found word r = Searched (formula_at net a) (free_of net) t loose w found word r
 
 -- the cube m, w fixes and sets no variable of `loose`
 pub record Free (loose m w : ℕ) : Type 0 where
@@ -46,15 +46,15 @@ pub record Free (loose m w : ℕ) : Type 0 where
 
 -- every variable that node a reads is a place of z
 pub record Covers (net : List ℕ) (a z : ℕ) : Type 0 where
-  pub all : (x : ℕ) → free (formulaAt net a) x ≡ true → bit z x ≡ true
+  pub all : (x : ℕ) → free (formula_at net a) x ≡ true → bit z x ≡ true
 
 -- a search of node a for the truth t: the cube m, w fixes and sets no variable of `loose`, all that the node reads is assigned or loose, and no
 -- quantifier below binds any of it
 pub record Posed (net : List ℕ) (a t loose m w : ℕ) (cells : List ℕ) : Type 0 where
   pub ground : Ground net
-  pub here : a < framesOf net + 2
-  pub target-some : 0 < t
-  pub target-low : t < 3
+  pub here : a < frames_of net + 2
+  pub target_some : 0 < t
+  pub target_low : t < 3
   pub free : Free loose m w
   pub covers : Covers net a (bit_or m loose)
   pub clear : Clear (packed net) a (bit_or m loose)

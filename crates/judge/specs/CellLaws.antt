@@ -5,7 +5,7 @@ use Rattle.std.specs.Prelude.{◌≡◌, refl, List, [], ◌∷◌, length, get_
 use Rattle.std.proofs.Math.ListN.{set}
 use Rattle.std.proofs.lemmas.List.{set-get_or, set_comm}
 use Rattle.std.proofs.Math.Seq.{set-set}
-use Rattle.judge.specs.Cells.{HasCell, value_of, reasonOf, previous, cleared, Vacant, Stored, end, Link, Chain, Trail}
+use Rattle.judge.specs.Cells.{HasCell, value_of, reason_of, previous, cleared, Vacant, Stored, end, Link, Chain, Trail}
 
 -- ---- the two words of node k
 
@@ -17,14 +17,14 @@ module _ (cells : List ℕ) (k x y : ℕ) where
   first-same : HasCell cells k → get_or (pair cells k x y) (2 * k) 0 ≡ x
   first-same h = get_or-set_other (set cells (2 * k) x) (2 * k + 1) (2 * k) y 0 (λ e. omega arith) ∙ get_or-set_same cells (2 * k) x 0 (omega arith)
 
-  second-same : HasCell cells k → get_or (pair cells k x y) (2 * k + 1) 0 ≡ y
-  second-same h = get_or-set_same (set cells (2 * k) x) (2 * k + 1) y 0 (rw length-set h)
+  second_same : HasCell cells k → get_or (pair cells k x y) (2 * k + 1) 0 ≡ y
+  second_same h = get_or-set_same (set cells (2 * k) x) (2 * k + 1) y 0 (rw length-set h)
 
   first-other : (i : ℕ) → (i ≡ k → ⊥) → get_or (pair cells k x y) (2 * i) 0 ≡ get_or cells (2 * i) 0
   first-other i n = get_or-set_other (set cells (2 * k) x) (2 * k + 1) (2 * i) y 0 (λ e. omega arith) ∙ get_or-set_other cells (2 * k) (2 * i) x 0 (λ e. n (omega arith))
 
-  second-other : (i : ℕ) → (i ≡ k → ⊥) → get_or (pair cells k x y) (2 * i + 1) 0 ≡ get_or cells (2 * i + 1) 0
-  second-other i n =
+  second_other : (i : ℕ) → (i ≡ k → ⊥) → get_or (pair cells k x y) (2 * i + 1) 0 ≡ get_or cells (2 * i + 1) 0
+  second_other i n =
       get_or-set_other (set cells (2 * k) x) (2 * k + 1) (2 * i + 1) y 0 (λ e. n (omega arith)) ∙ get_or-set_other cells (2 * k) (2 * i + 1) x 0 (λ e. omega arith)
 
   cleared-again : cleared (pair cells k x y) k ≡ cleared cells k
@@ -50,9 +50,9 @@ module _ {k v r head head' : ℕ} {cells cells' : List ℕ} (S : Stored k v r he
   unfolding value_of
   stored-value h l = rw (S.is, first-same cells k (4 * head + v) r h) (omega arith)
 
-  pub stored-reason : HasCell cells k → reasonOf cells' k ≡ r
-  unfolding reasonOf
-  stored-reason h = rw (S.is, second-same cells k (4 * head + v) r h)
+  pub stored-reason : HasCell cells k → reason_of cells' k ≡ r
+  unfolding reason_of
+  stored-reason h = rw (S.is, second_same cells k (4 * head + v) r h)
 
   stored-previous : HasCell cells k → v < 3 → head < 65536 → previous cells' k ≡ head
   unfolding previous
@@ -62,9 +62,9 @@ module _ {k v r head head' : ℕ} {cells cells' : List ℕ} (S : Stored k v r he
   unfolding value_of
   other-value i n = rw (S.is, first-other cells k (4 * head + v) r i n)
 
-  pub other-reason : (i : ℕ) → (i ≡ k → ⊥) → reasonOf cells' i ≡ reasonOf cells i
-  unfolding reasonOf
-  other-reason i n = rw (S.is, second-other cells k (4 * head + v) r i n)
+  pub other-reason : (i : ℕ) → (i ≡ k → ⊥) → reason_of cells' i ≡ reason_of cells i
+  unfolding reason_of
+  other-reason i n = rw (S.is, second_other cells k (4 * head + v) r i n)
 
 -- ---- no cell is set
 
@@ -91,9 +91,9 @@ module _ {old cells : List ℕ} {head : ℕ} (T : Trail old cells head) where
       go zero c = c.is
       go (suc n) c = absurd (omega (arith, c.inner))
 
-  pub trail-link : (head ≡ end → ⊥) → Link (Trail old) cells head
+  pub trail_link : (head ≡ end → ⊥) → Link (Trail old) cells head
   unfolding Chain
-  trail-link e = go T.count T.chain
+  trail_link e = go T.count T.chain
     where
       go : (n : ℕ) → Chain old n cells head → Link (Trail old) cells head
       go zero c = absurd (e c.over)
@@ -108,15 +108,15 @@ module _ {old cells : List ℕ} {head : ℕ} (T : Trail old cells head) where
       go (suc n) c = omega (arith, c.inner)
 
 -- nothing was set since
-pub trail-none : {cells old : List ℕ} {head : ℕ} → head ≡ end → cells ≡ old → Trail old cells head
+pub trail_none : {cells old : List ℕ} {head : ℕ} → head ≡ end → cells ≡ old → Trail old cells head
 unfolding Chain
-trail-none e h = record { count = zero; chain = record { over = e; is = h } }
+trail_none e h = record { count = zero; chain = record { over = e; is = h } }
 
 -- node k was set
-pub trail-put : {k v r head head' : ℕ} {cells cells' : List ℕ} → HasCell cells k → k < end → 0 < v → v < 3 → Vacant cells k → Stored k v r head cells cells' head'
+pub trail_put : {k v r head head' : ℕ} {cells cells' : List ℕ} → HasCell cells k → k < end → 0 < v → v < 3 → Vacant cells k → Stored k v r head cells cells' head'
     → (old : List ℕ) → Trail old cells head → Trail old cells' head'
 unfolding Chain
-trail-put {k} {v} {r} {head} {head'} {cells} {cells'} h l p u e S old T =
+trail_put {k} {v} {r} {head} {head'} {cells} {cells'} h l p u e S old T =
     let x = 4 * head + v in
     rw S.first (record {
       count = suc T.count;
@@ -144,37 +144,37 @@ some-le (suc c ∷ cs) zero = omega arith
 some-le (zero ∷ cs) (suc k) = some-le cs k
 some-le (suc c ∷ cs) (suc k) = omega (arith, some-le cs k)
 
-some-less : (cells : List ℕ) (k : ℕ) → k < length cells → 0 < get_or cells k 0 → some (set cells k 0) < some cells
+some_less : (cells : List ℕ) (k : ℕ) → k < length cells → 0 < get_or cells k 0 → some (set cells k 0) < some cells
 unfolding some
-some-less [] k h l = absurd (omega arith)
-some-less (zero ∷ cs) zero h l = absurd (omega arith)
-some-less (suc c ∷ cs) zero h l = omega arith
-some-less (zero ∷ cs) (suc k) h l = some-less cs k (omega arith) l
-some-less (suc c ∷ cs) (suc k) h l = omega (arith, some-less cs k (omega arith) l)
+some_less [] k h l = absurd (omega arith)
+some_less (zero ∷ cs) zero h l = absurd (omega arith)
+some_less (suc c ∷ cs) zero h l = omega arith
+some_less (zero ∷ cs) (suc k) h l = some_less cs k (omega arith) l
+some_less (suc c ∷ cs) (suc k) h l = omega (arith, some_less cs k (omega arith) l)
 
-cleared-less : (cells : List ℕ) (k : ℕ) → HasCell cells k → 0 < get_or cells (2 * k) 0 → some (cleared cells k) < some cells
+cleared_less : (cells : List ℕ) (k : ℕ) → HasCell cells k → 0 < get_or cells (2 * k) 0 → some (cleared cells k) < some cells
 unfolding cleared
-cleared-less cells k h l = omega (arith, some-le (set cells (2 * k) 0) (2 * k + 1), some-less cells (2 * k) (omega arith) l)
+cleared_less cells k h l = omega (arith, some-le (set cells (2 * k) 0) (2 * k + 1), some_less cells (2 * k) (omega arith) l)
 
 -- while the chain is undone: whatever the cells were, they are on the way back there
 pub record Undone (cells₀ : List ℕ) (head₀ : ℕ) (cells : List ℕ) (head : ℕ) : Type 0 where
   pub some-old : (old : List ℕ) × Trail old cells head
   pub keeps : (old : List ℕ) → Trail old cells₀ head₀ → Trail old cells head
 
-pub undone-start : {cells : List ℕ} {head : ℕ} → ((old : List ℕ) × Trail old cells head) → Undone cells head cells head
-undone-start p = record { some-old = p; keeps = λ old T. T }
+pub undone_start : {cells : List ℕ} {head : ℕ} → ((old : List ℕ) × Trail old cells head) → Undone cells head cells head
+undone_start p = record { some-old = p; keeps = λ old T. T }
 
 module _ {cells₀ : List ℕ} {head₀ : ℕ} {cells : List ℕ} {head : ℕ} (U : Undone cells₀ head₀ cells head) where
-  pub undone-here : {k : ℕ} → k ≡ head → (head ≡ end → ⊥) → HasCell cells k
-  undone-here i e = rw i (trail-link U.some-old.1 e).here
+  pub undone_here : {k : ℕ} → k ≡ head → (head ≡ end → ⊥) → HasCell cells k
+  undone_here i e = rw i (trail_link U.some-old.1 e).here
 
-  pub undone-less : {k : ℕ} {cells' : List ℕ} → k ≡ head → (head ≡ end → ⊥) → cells' ≡ cleared cells k → some cells' < some cells
-  undone-less i e c = let l = trail-link U.some-old.1 e in rw (c, i) (cleared-less cells head l.here l.set_here)
+  pub undone_less : {k : ℕ} {cells' : List ℕ} → k ≡ head → (head ≡ end → ⊥) → cells' ≡ cleared cells k → some cells' < some cells
+  undone_less i e c = let l = trail_link U.some-old.1 e in rw (c, i) (cleared_less cells head l.here l.set_here)
 
-  pub undone-step : {k p : ℕ} {cells' : List ℕ} → k ≡ head → (head ≡ end → ⊥) → cells' ≡ cleared cells k → p ≡ previous cells k → Undone cells₀ head₀ cells' p
-  undone-step i e c h = rw (c, h, i) (record {
-    some-old = (U.some-old.0, (trail-link U.some-old.1 e).rest);
-    keeps = λ old T. (trail-link (U.keeps old T) e).rest;
+  pub undone_step : {k p : ℕ} {cells' : List ℕ} → k ≡ head → (head ≡ end → ⊥) → cells' ≡ cleared cells k → p ≡ previous cells k → Undone cells₀ head₀ cells' p
+  undone_step i e c h = rw (c, h, i) (record {
+    some-old = (U.some-old.0, (trail_link U.some-old.1 e).rest);
+    keeps = λ old T. (trail_link (U.keeps old T) e).rest;
   })
 
   pub undone-end : head ≡ end → (old : List ℕ) → Trail old cells₀ head₀ → cells ≡ old

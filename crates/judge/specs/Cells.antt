@@ -10,8 +10,8 @@ HasCell cells k = 2 * k + 1 < length cells
 unfoldable pub value_of : List ℕ → ℕ → ℕ
 value_of cells k = get_or cells (2 * k) 0 % 4
 
-unfoldable pub reasonOf : List ℕ → ℕ → ℕ
-reasonOf cells k = get_or cells (2 * k + 1) 0
+unfoldable pub reason_of : List ℕ → ℕ → ℕ
+reason_of cells k = get_or cells (2 * k + 1) 0
 
 -- the node that was set before node k
 unfoldable pub previous : List ℕ → ℕ → ℕ

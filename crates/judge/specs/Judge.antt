@@ -4,13 +4,13 @@ use Rattle.std.specs.Int.Bits.{bit_or}
 use Rattle.words.specs.Word.{bit}
 use Rattle.words.specs.Mask.{Sub, Apart, without}
 use Rattle.formula.specs.Reason.{Explains}
-use Rattle.net.specs.Layout.{formulaAt, val}
-use Rattle.judge.specs.Cells.{value_of, reasonOf, Trail}
+use Rattle.net.specs.Layout.{formula_at, val}
+use Rattle.judge.specs.Cells.{value_of, reason_of, Trail}
 
 -- node k has the value v because of the variables of r, which are assigned
 pub record Forced (net : List ℕ) (m w k v r : ℕ) : Type 0 where
   pub low : v < 3
-  pub explains : Explains (formulaAt net k) (val v) (bit r) (bit w)
+  pub explains : Explains (formula_at net k) (val v) (bit r) (bit w)
   pub assigned : Sub r m
 
 -- 0 says nothing
@@ -20,7 +20,7 @@ Right net m w k v r = 0 < v → Forced net m w k v r
 -- there is a cell for every node of the net, and each is right under the cube m, w
 pub record Judged (net : List ℕ) (m w : ℕ) (cells : List ℕ) : Type 0 where
   pub long : length net ≤ 67 + length cells
-  pub each : (k : ℕ) → Right net m w k (value_of cells k) (reasonOf cells k)
+  pub each : (k : ℕ) → Right net m w k (value_of cells k) (reason_of cells k)
 
 -- ---- each kind of node, from what is known of those that it names
 

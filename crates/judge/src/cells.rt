@@ -1,7 +1,7 @@
 // The scratch of a search: two words a node. The first has the node's value and the node that was set before it, the second the value's reason; both are
 // 0 where nothing is known. So the nodes set since a mark are a chain through the cells, which `undo` follows back.
 ghost use Rattle.std.specs.Prelude.{◌≡◌, true, List, ℕ, ◌+◌, ◌*◌, ◌<◌, length, set};
-ghost use Rattle.judge.specs.Cells.{HasCell, Vacant, value_of, reasonOf, Stored, Trail, previous, cleared};
+ghost use Rattle.judge.specs.Cells.{HasCell, Vacant, value_of, reason_of, Stored, Trail, previous, cleared};
 
 // The head of an empty chain of set cells.
 pub const END: u16 = 65535;
@@ -20,7 +20,7 @@ pub const NOTHING: Known = Known {
 
 pub fn known_at(cells: &[u64], k: usize) -> Known
     requires { HasCell cells.now k }
-    ensures { (result.value ≡ value_of cells.now k) × (result.reason ≡ reasonOf cells.now k) × (result.value < 4) }
+    ensures { (result.value ≡ value_of cells.now k) × (result.reason ≡ reason_of cells.now k) × (result.value < 4) }
 {
     let at = 2 * k;
     Known {

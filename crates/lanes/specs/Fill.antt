@@ -3,7 +3,7 @@ use Rattle.std.specs.Prelude.{ℕ, ◌+◌, ◌*◌, ◌≤◌, ◌<◌, ◌^◌
 use Rattle.std.specs.Int.Bits.{bit_or}
 use Rattle.words.specs.Word.{bit}
 use Rattle.formula.specs.Formula.{Formula}
-use Rattle.net.specs.Layout.{formulaAt}
+use Rattle.net.specs.Layout.{formula_at}
 use Rattle.judge.specs.Cells.{value_of}
 use Rattle.lanes.specs.Pattern.{low}
 use Rattle.lanes.specs.Lanes.{place, Distinct, Says, ones, Flipped}
@@ -34,7 +34,7 @@ stored rows k z o t = set (set (set rows (3 * k) t) (3 * k + 1) z) (3 * k + 2) o
 
 -- they are node k's row
 pub record RowAt (net ps : List ℕ) (w : ℕ) (rows : List ℕ) (k : ℕ) : Type 0 where
-  pub row : Row (formulaAt net k) ps w (get_or rows (3 * k + 1) 0) (get_or rows (3 * k + 2) 0) (get_or rows (3 * k) 0)
+  pub row : Row (formula_at net k) ps w (get_or rows (3 * k + 1) 0) (get_or rows (3 * k + 2) 0) (get_or rows (3 * k) 0)
 
 -- node k is known, or those that it names have their rows
 abbrev pub Ripe : List ℕ → List ℕ → List ℕ → ℕ → List ℕ → ℕ → Type 0
@@ -52,12 +52,12 @@ pub record Filled (net ps : List ℕ) (w : ℕ) (ms rows : List ℕ) (n : ℕ) :
 
 -- ---- each kind of node
 
-abbrev pub fullIf : Bool → ℕ
-fullIf b = cond b ones 0
+abbrev pub full_if : Bool → ℕ
+full_if b = cond b ones 0
 
 -- the same value b in every lane, because of r
 pub record Constant (b : Bool) (r z o t : ℕ) : Type 0 where
-  pub word : t ≡ fullIf b
+  pub word : t ≡ full_if b
   pub zero : z ≡ cond b 0 r
   pub one : o ≡ cond b r 0
 

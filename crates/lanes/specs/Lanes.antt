@@ -22,8 +22,8 @@ pub record At (π : Positions) (l : ℕ) (σ : Assignment) : Type 0 where
   pub here : (x : ℕ) → π x < 6 → σ x ≡ bit l (π x)
 
 -- the setting of lane l: w, with the lane's values
-unfoldable pub laneAssignment : Positions → ℕ → ℕ → Assignment
-laneAssignment π w l x = cond (ltb (π x) 6) (bit l (π x)) (bit w x)
+unfoldable pub lane_assignment : Positions → ℕ → ℕ → Assignment
+lane_assignment π w l x = cond (ltb (π x) 6) (bit l (π x)) (bit w x)
 
 -- in every lane where t has v, f has v, for every setting that has w's values at the variables of r
 pub record Says (f : Formula) (v : Bool) (π : Positions) (w r t : ℕ) : Type 0 where

@@ -4,8 +4,8 @@ use Rattle.std.proofs.Common.{arith, sym, ◌∙◌, ap, length-set, get_or-set_
 use Rattle.std.specs.Int.Bits.{bit_or}
 use Rattle.words.specs.Logic.{by_bool, clash, tests, or_left, or_right, same_test}
 use Rattle.words.specs.Word.{bit, bit-or, bit-pow}
-use Rattle.net.specs.Net.{Node, Fixed, Reads, Flips, Joins, Binds, Fit, node-fixed}
-use Rattle.net.specs.Layout.{packed, Ground, Is, is-reads, is-flips, is-joins, flips-below, joins-left, joins-right}
+use Rattle.net.specs.Net.{Node, Fixed, Reads, Flips, Joins, Binds, Fit, node_fixed}
+use Rattle.net.specs.Layout.{packed, Ground, Is, is-reads, is_flips, is-joins, flips_below, joins-left, joins-right}
 use Rattle.imply.specs.Halves.{or-none}
 use Rattle.lanes.specs.Marks.{marked, joined, Raised, Names, Founded, Marked, Spread, Closed}
 
@@ -38,11 +38,11 @@ joined-here ms k h = joined-marked ms k k h ∙ or_right (marked ms k) (eqb k k)
 
 -- ---- more below k
 
-pub raised-none : (k : ℕ) (ms : List ℕ) → Raised k ms ms
-raised-none k ms = record { long = refl; kept = λ i e. e; above = λ i h. refl }
+pub raised_none : (k : ℕ) (ms : List ℕ) → Raised k ms ms
+raised_none k ms = record { long = refl; kept = λ i e. e; above = λ i h. refl }
 
-pub raised-more : {k x : ℕ} {ms ms' : List ℕ} → Raised k ms ms' → x < k → x < 64 * length ms' → Raised k ms (joined ms' x)
-raised-more {k} {x} {ms} {ms'} R h l = record {
+pub raised_more : {k x : ℕ} {ms ms' : List ℕ} → Raised k ms ms' → x < k → x < 64 * length ms' → Raised k ms (joined ms' x)
+raised_more {k} {x} {ms} {ms'} R h l = record {
   long = joined-long ms' x ∙ R.long;
   kept = λ i e. joined-marked ms' x i l ∙ or_left (marked ms' i) (eqb i x) (R.kept i e);
   above = λ i j. joined-marked ms' x i l ∙ or-none (marked ms' i) (eqb i x) (ne_eqb i x (λ e. omega arith)) ∙ R.above i j;
@@ -57,63 +57,63 @@ names-map P Q (Flips x) h f p = f x h p
 names-map P Q (Joins d x y) h f p = (f x h.0 p.0, f y h.1 p.1)
 names-map P Q (Binds d m x) h f p = p
 
-pub founded-map : {P Q : ℕ → Type 0} {net : List ℕ} {k : ℕ} → Ground net → Founded P net k → ((i : ℕ) → i < k → P i → Q i) → Founded Q net k
-founded-map {P} {Q} {net} {k} G F f = record { names = names-map P Q (packed net k) (G.ordered.fit k) f F.names }
+pub founded_map : {P Q : ℕ → Type 0} {net : List ℕ} {k : ℕ} → Ground net → Founded P net k → ((i : ℕ) → i < k → P i → Q i) → Founded Q net k
+founded_map {P} {Q} {net} {k} G F f = record { names = names-map P Q (packed net k) (G.ordered.fit k) f F.names }
 
 module _ {P : ℕ → Type 0} {net : List ℕ} {k op left right mask : ℕ} (G : Ground net) (I : Is net k op left right mask) where
-  pub founded-fixed : op < 2 → Founded P net k
-  founded-fixed h = record { names = rw (I.node ∙ node-fixed op left right mask h) tt }
+  pub founded_fixed : op < 2 → Founded P net k
+  founded_fixed h = record { names = rw (I.node ∙ node_fixed op left right mask h) tt }
 
-  pub founded-reads : op ≡ 2 → Founded P net k
-  founded-reads h = record { names = rw (is-reads G I h) tt }
+  pub founded_reads : op ≡ 2 → Founded P net k
+  founded_reads h = record { names = rw (is-reads G I h) tt }
 
-  pub founded-flips : op ≡ 3 → P left → Founded P net k
-  founded-flips h p = record { names = rw (is-flips G I h) p }
+  pub founded_flips : op ≡ 3 → P left → Founded P net k
+  founded_flips h p = record { names = rw (is_flips G I h) p }
 
-  pub founded-joins : 4 ≤ op → op < 6 → P left → P right → Founded P net k
-  founded-joins h l p q = record { names = rw (is-joins G I h l) (p, q) }
+  pub founded_joins : 4 ≤ op → op < 6 → P left → P right → Founded P net k
+  founded_joins h l p q = record { names = rw (is-joins G I h l) (p, q) }
 
 -- as the code marks them
 module _ {net ms' : List ℕ} {k op left right mask : ℕ} (G : Ground net) (I : Is net k op left right mask) (ms : List ℕ) (h : k < 64 * length ms) (e : ms' ≡ joined ms left) where
-  left-raised : left < k → Raised k ms ms'
-  left-raised l = rw e (raised-more (raised-none k ms) l (omega arith))
+  left_raised : left < k → Raised k ms ms'
+  left_raised l = rw e (raised_more (raised_none k ms) l (omega arith))
 
   left-marked : left < k → Marked ms' left
   left-marked l = rw e (joined-here ms left (omega arith))
 
-  pub spread-flips : op ≡ 3 → Raised k ms ms' × Founded (Marked ms') net k
-  spread-flips z = let l = flips-below G I z in (left-raised l, founded-flips G I z (left-marked l))
+  pub spread_flips : op ≡ 3 → Raised k ms ms' × Founded (Marked ms') net k
+  spread_flips z = let l = flips_below G I z in (left_raised l, founded_flips G I z (left-marked l))
 
   pub spread-joins : {ms'' : List ℕ} → ms'' ≡ joined ms' right → 4 ≤ op → op < 6 → Raised k ms ms'' × Founded (Marked ms'') net k
   spread-joins {ms''} q y z =
       let l = joins-left G I y z in
       let r = joins-right G I y z in
-      let R = left-raised l in
+      let R = left_raised l in
       let n : right < 64 * length ms' = omega (arith, R.long) in
-      let m : Marked ms'' left = rw q ((raised-more (raised-none k ms') r n).kept left (left-marked l)) in
-      (rw q (raised-more R r n), founded-joins G I y z m (rw q (joined-here ms' right n)))
+      let m : Marked ms'' left = rw q ((raised_more (raised_none k ms') r n).kept left (left-marked l)) in
+      (rw q (raised_more R r n), founded_joins G I y z m (rw q (joined-here ms' right n)))
 
 -- ---- downwards
 
-pub closed-start : {net cells ms : List ℕ} {k a : ℕ} → k ≡ suc a → Marked ms a → Closed net cells ms k a
-closed-start e m = record { top = m; each = λ i h j. absurd (omega arith) }
+pub closed_start : {net cells ms : List ℕ} {k a : ℕ} → k ≡ suc a → Marked ms a → Closed net cells ms k a
+closed_start e m = record { top = m; each = λ i h j. absurd (omega arith) }
 
 module _ {net cells ms : List ℕ} {k a : ℕ} where
   -- a node that is not marked
-  pub closed-skip : {above : ℕ} → above ≡ suc k → Closed net cells ms above a → marked ms k ≡ false → Closed net cells ms k a
-  closed-skip e C n = record {
+  pub closed_skip : {above : ℕ} → above ≡ suc k → Closed net cells ms above a → marked ms k ≡ false → Closed net cells ms k a
+  closed_skip e C n = record {
     top = C.top;
     each = λ i h j m. by_bool (eqb i k) (λ q. clash (marked ms i) m (ap (marked ms) (eqb-true i k q) ∙ n)) (λ q. C.each i (omega tests) j m);
   }
 
   -- a node whose names are marked now
-  pub closed-next : {above : ℕ} {ms' : List ℕ} → Ground net → above ≡ suc k → Closed net cells ms above a → k ≤ a → Raised k ms ms' → Spread net cells ms' k
+  pub closed_next : {above : ℕ} {ms' : List ℕ} → Ground net → above ≡ suc k → Closed net cells ms above a → k ≤ a → Raised k ms ms' → Spread net cells ms' k
       → Closed net cells ms' k a
-  closed-next {ms' = ms'} G e C l R S = record {
+  closed_next {ms' = ms'} G e C l R S = record {
     top = R.kept a C.top;
     each = λ i h j m. by_bool (eqb i k)
         (λ q. rw (eqb-true i k q) S)
-        (λ q z. founded-map G (C.each i (omega tests) j (sym (R.above i h) ∙ m) z) (λ x b. R.kept x));
+        (λ q z. founded_map G (C.each i (omega tests) j (sym (R.above i h) ∙ m) z) (λ x b. R.kept x));
   }
 
 -- every node has been looked at

@@ -5,8 +5,8 @@ use Rattle.std.specs.Bool.{beq}
 use Rattle.std.proofs.Math.Bool.{and-true, and-false}
 use Rattle.std.proofs.Math.Pow.{pow-lt}
 use Rattle.std.proofs.lemmas.Nat.{and_mask, and_le_r, or_lt}
-use Rattle.words.specs.Logic.{by_bool, clash, tests, and_both, not-not, not-flip}
-use Rattle.words.specs.Word.{bit, bit-and, bit-or, bit-shr, bit-shl, bit-ones}
+use Rattle.words.specs.Logic.{by_bool, clash, tests, and_both, not-not, not_flip}
+use Rattle.words.specs.Word.{bit, bit-and, bit-or, bit_shr, bit_shl, bit-ones}
 use Rattle.words.specs.Mask.{put, without}
 use Rattle.lanes.specs.Pattern.{low, Half, part, copied}
 
@@ -30,16 +30,16 @@ beq-true true false e = clash false e refl
 beq-true false true e = clash false e refl
 beq-true false false e = refl
 
-low-test : ℕ → ℕ → Bool
-low-test p l = beq (bit (low p) l) (not (bit l p))
+low_test : ℕ → ℕ → Bool
+low_test p l = beq (bit (low p) l) (not (bit l p))
 
-low-tests : every 6 (λ p. every 64 (low-test p)) ≡ true
-unfolding every low bit low-test
-low-tests = refl
+low_tests : every 6 (λ p. every 64 (low_test p)) ≡ true
+unfolding every low bit low_test
+low_tests = refl
 
 pub bit-low : (p l : ℕ) → p < 6 → l < 64 → bit (low p) l ≡ not (bit l p)
-unfolding low-test
-bit-low p l h i = beq-true _ _ (every-at 64 (low-test p) (every-at 6 (λ p. every 64 (low-test p)) low-tests p h) l i)
+unfolding low_test
+bit-low p l h i = beq-true _ _ (every-at 64 (low_test p) (every-at 6 (λ p. every 64 (low_test p)) low_tests p h) l i)
 
 low_small : (p : ℕ) → low p < 2 ^ 64
 unfolding low
@@ -62,16 +62,16 @@ high_is p l = eqb (put l p true) (cond (bit l p) l (2 ^ p + l))
 abbrev other-is : ℕ → ℕ → Bool
 other-is p l = cond (leb (2 ^ p) l) (beq (bit (l - 2 ^ p) p) (not (bit l p))) (not (bit l p))
 
-abbrev put-test : ℕ → ℕ → Bool
-put-test p l = low-is p l && (high_is p l && other-is p l)
+abbrev put_test : ℕ → ℕ → Bool
+put_test p l = low-is p l && (high_is p l && other-is p l)
 
-put-tests : every 6 (λ p. every 64 (λ l. put-test p l)) ≡ true
+put_tests : every 6 (λ p. every 64 (λ l. put_test p l)) ≡ true
 unfolding every bit put without
-put-tests = refl
+put_tests = refl
 
 module _ (p l : ℕ) (h : p < 6) (i : l < 64) where
-  tested : put-test p l ≡ true
-  tested = every-at 64 (λ l. put-test p l) (every-at 6 (λ p. every 64 (λ l. put-test p l)) put-tests p h) l i
+  tested : put_test p l ≡ true
+  tested = every-at 64 (λ l. put_test p l) (every-at 6 (λ p. every 64 (λ l. put_test p l)) put_tests p h) l i
 
   rest-tested : (high_is p l && other-is p l) ≡ true
   rest-tested = (and_both (low-is p l) (high_is p l && other-is p l) tested).1
@@ -89,16 +89,16 @@ module _ (p l : ℕ) (h : p < 6) (i : l < 64) where
 
 bit-part : (t p : ℕ) (b : Bool) (l : ℕ) → bit (part t p b) l ≡ bit t (cond b (2 ^ p + l) l) && bit (low p) l
 unfolding part
-bit-part t p true l = bit-and _ _ l ∙ ap (λ (x : Bool). x && bit (low p) l) (bit-shr t (2 ^ p) l)
+bit-part t p true l = bit-and _ _ l ∙ ap (λ (x : Bool). x && bit (low p) l) (bit_shr t (2 ^ p) l)
 bit-part t p false l = bit-and _ _ l
 
-bit-wrapped : (x n k : ℕ) → k < n → bit (x % 2 ^ n) k ≡ bit x k
-bit-wrapped x n k h =
+bit_wrapped : (x n k : ℕ) → k < n → bit (x % 2 ^ n) k ≡ bit x k
+bit_wrapped x n k h =
     ap (λ (y : ℕ). bit y k) (sym (and_mask x n)) ∙ bit-and x (2 ^ n - 1) k ∙ ap (λ (y : Bool). bit x k && y) (bit-ones n k ∙ lt-ltb k n h) ∙ and-true (bit x k)
 
 bit-copied : (h p l : ℕ) → l < 64 → bit (copied h p) l ≡ bit h l || (leb (2 ^ p) l && bit h (l - 2 ^ p))
 unfolding copied
-bit-copied h p l i = bit-or h _ l ∙ ap (λ (y : Bool). bit h l || y) (bit-wrapped (h * 2 ^ (2 ^ p)) 64 l i ∙ bit-shl h (2 ^ p) l)
+bit-copied h p l i = bit-or h _ l ∙ ap (λ (y : Bool). bit h l || y) (bit_wrapped (h * 2 ^ (2 ^ p)) 64 l i ∙ bit_shl h (2 ^ p) l)
 
 or-none : (a b : Bool) → b ≡ false → a || b ≡ a
 or-none true b e = refl
@@ -127,7 +127,7 @@ module _ (t p : ℕ) (b : Bool) (h : p < 6) (l : ℕ) (i : l < 64) where
       ∙ ap (λ (y : Bool). bit t (at (l - 2 ^ p)) && y) (bit-low p (l - 2 ^ p) h (omega arith) ∙ ap not (beq-true (bit (l - 2 ^ p) p) (not (bit l p)) e) ∙ not-not (bit l p))
 
   reached : bit l p ≡ true → leb (2 ^ p) l ≡ true
-  reached e = by_bool (leb (2 ^ p) l) (λ q. q) (λ q. clash (bit l p) e (not-flip (bit l p) true (rw q at (put_other p l h i))))
+  reached e = by_bool (leb (2 ^ p) l) (λ q. q) (λ q. clash (bit l p) e (not_flip (bit l p) true (rw q at (put_other p l h i))))
 
   at_clear : bit l p ≡ false → (b : Bool) → cond b (2 ^ p + l) l ≡ put l p b
   at_clear e true = sym (put-high p l h i ∙ rw e)
@@ -158,5 +158,5 @@ pub half-copied : (t p : ℕ) (b : Bool) → p < 6 → Half t p b (copied (part 
 half-copied t p b h = record { bits = half-bits t p b h; small = copied-lt (part t p b) p (part-lt t p b) }
 
 -- two lanes that differ in one position are less than 64 apart
-pub stride-lt : (p : ℕ) → p < 6 → 2 ^ p < 64
-stride-lt p h = pow-lt h
+pub stride_lt : (p : ℕ) → p < 6 → 2 ^ p < 64
+stride_lt p h = pow-lt h

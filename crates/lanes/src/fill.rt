@@ -1,7 +1,7 @@
 // Each node's row: its word of lanes with the reasons, from the rows of the nodes that it names.
 ghost use Rattle.std.specs.Prelude.{◌≡◌, ◌⊎◌, ◌*◌, ◌<◌, length};
 ghost use Rattle.std.specs.Int.Bits.{bit_and, bit_or};
-ghost use Rattle.net.specs.Layout.{formulaAt, HasNode, Ground};
+ghost use Rattle.net.specs.Layout.{formula_at, HasNode, Ground};
 ghost use Rattle.judge.specs.Judge.{Judged};
 ghost use Rattle.lanes.specs.Lanes.{Flipped};
 ghost use Rattle.lanes.specs.Marks.{Founded, Closed};
@@ -168,7 +168,7 @@ fn either(x: Row, y: Row) -> Row
 // The row of node k, which is no quantifier, from those of the nodes that it names.
 fn row_of(net: &[u64], k: usize, w: u64, places: &[u8; 64], rows: &[u64]) -> Row
     requires { Ground net.now × HasNode net.now k × HasRow rows.now k × Founded (RowAt net.now places.now w rows.now) net.now k }
-    ensures { Fill.Row (formulaAt net.now k) places.now w result.zero result.one result.word }
+    ensures { Fill.Row (formula_at net.now k) places.now w result.zero result.one result.word }
 {
     let node = node_at(net, k);
     let op = node.op;

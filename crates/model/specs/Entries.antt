@@ -6,18 +6,18 @@ use Rattle.std.proofs.lemmas.List.{get_or_at}
 use Rattle.std.specs.Int.Bits.{bit_or, or_zero_r}
 use Rattle.words.specs.Logic.{by_bool, clash, tests, and_both, or_cases, or_left, or_right}
 use Rattle.words.specs.Word.{bit, bit-or, bit-pow, bit-none, ext}
-use Rattle.words.specs.Mask.{Sub, sub-bits, bit-maskOf, maskOf-lt, sub-le}
+use Rattle.words.specs.Mask.{Sub, sub-bits, bit-mask_of, mask_of-lt, sub-le}
 use Rattle.formula.specs.Formula.{Formula, free}
-use Rattle.formula.specs.Ask.{freeMask}
+use Rattle.formula.specs.Ask.{free_mask}
 use Rattle.model.specs.declared.Entry.{Entry}
-pub use Rattle.model.specs.Model.{entry_at, valuePart}
-use Rattle.model.specs.Model.{Meaning, meaning, noEntry, enteredMask, enteredValues, entered, lastDesk}
+pub use Rattle.model.specs.Model.{entry_at, value_part}
+use Rattle.model.specs.Model.{Meaning, meaning, no_entry, entered_mask, entered_values, entered, last_desk}
 
 -- every entry is of an open variable, has the value 0 or 1 and is of a desk from 0 to 7, and no two are of one variable
 pub record Entered (m : Meaning) (es : List Entry) : Type 0 where
   pub opened : (i : ℕ) → i < length es → m.opens (entry_at es i).variable ≡ true
   pub valued : (i : ℕ) → i < length es → (entry_at es i).value < 2
-  pub desked : (i : ℕ) → i < length es → (entry_at es i).desk ≤ lastDesk
+  pub desked : (i : ℕ) → i < length es → (entry_at es i).desk ≤ last_desk
   pub distinct : (i j : ℕ) → i < length es → j < length es → (entry_at es i).variable ≡ (entry_at es j).variable → i ≡ j
 
 -- ---- which variables are entered
@@ -29,17 +29,17 @@ entered_at (e ∷ es) zero h = or_left (eqb e.variable e.variable) (entered es e
 entered_at (e ∷ es) (suc i) h =
     or_right (eqb (entry_at es i).variable e.variable) (entered es (entry_at es i).variable) (entered_at es i (omega arith))
 
-pub entered-find : (es : List Entry) (x : ℕ) → entered es x ≡ true → (i : ℕ) × (i < length es) × ((entry_at es i).variable ≡ x)
+pub entered_find : (es : List Entry) (x : ℕ) → entered es x ≡ true → (i : ℕ) × (i < length es) × ((entry_at es i).variable ≡ x)
 unfolding entered
-entered-find [] x t = clash false t refl
-entered-find (e ∷ es) x t = or_cases (eqb x e.variable) (entered es x) t
+entered_find [] x t = clash false t refl
+entered_find (e ∷ es) x t = or_cases (eqb x e.variable) (entered es x) t
     (λ h. (0, omega arith, sym (eqb-true x e.variable h)))
-    (λ h. let r = entered-find es x h in (suc r.0, omega (arith, r.1), r.2))
+    (λ h. let r = entered_find es x h in (suc r.0, omega (arith, r.1), r.2))
 
-pub entered-snoc : (es : List Entry) (e : Entry) (x : ℕ) → entered (es ++ (e ∷ [])) x ≡ entered es x || eqb x e.variable
+pub entered_snoc : (es : List Entry) (e : Entry) (x : ℕ) → entered (es ++ (e ∷ [])) x ≡ entered es x || eqb x e.variable
 unfolding entered
-entered-snoc [] e x = by_bool (eqb x e.variable) (λ t. rw t) (λ t. rw t)
-entered-snoc (d ∷ es) e x = by_bool (eqb x d.variable) (λ t. rw t) (λ t. rw t (entered-snoc es e x))
+entered_snoc [] e x = by_bool (eqb x e.variable) (λ t. rw t) (λ t. rw t)
+entered_snoc (d ∷ es) e x = by_bool (eqb x d.variable) (λ t. rw t) (λ t. rw t (entered_snoc es e x))
 
 -- ---- what is kept
 
@@ -56,15 +56,15 @@ module _ {m : Meaning} {es : List Entry} (e : Entry) (d : Entered m es) (fresh :
   more = es ++ (e ∷ [])
 
   older : (i : ℕ) → i < length es → entry_at more i ≡ entry_at es i
-  older i h = get_or-append es (e ∷ []) noEntry i h
+  older i h = get_or-append es (e ∷ []) no_entry i h
 
   newest : (i : ℕ) → i < length more → length es ≤ i → entry_at more i ≡ e
-  newest i h l = get_or_at es e [] noEntry i (omega (arith, simp length-append at h))
+  newest i h l = get_or_at es e [] no_entry i (omega (arith, simp length-append at h))
 
   apart : (i : ℕ) → i < length es → e.variable ≡ (entry_at more i).variable → ⊥
   apart i h s = clash (entered es e.variable) (rw (s, older i h) (entered_at es i h)) fresh
 
-  pub entered-more : m.opens e.variable ≡ true → e.value < 2 → e.desk ≤ lastDesk → Entered m (es ++ (e ∷ []))
+  pub entered-more : m.opens e.variable ≡ true → e.value < 2 → e.desk ≤ last_desk → Entered m (es ++ (e ∷ []))
   entered-more o v w = record {
     opened = λ i h. by_bool (ltb i (length es)) (λ t. rw (older i (omega tests)) (d.opened i (omega tests))) (λ t. rw (newest i h (omega tests)) o);
     valued = λ i h. by_bool (ltb i (length es)) (λ t. rw (older i (omega tests)) (d.valued i (omega tests))) (λ t. rw (newest i h (omega tests)) v);
@@ -78,8 +78,8 @@ module _ {m : Meaning} {es : List Entry} (e : Entry) (d : Entered m es) (fresh :
         (λ u. omega (tests, simp length-append at h, simp length-append at l)));
   }
 
-pub entered-less : {m : Meaning} {es : List Entry} (n : ℕ) → Entered m es → Entered m (take n es)
-entered-less {m} {es} n d = record {
+pub entered_less : {m : Meaning} {es : List Entry} (n : ℕ) → Entered m es → Entered m (take n es)
+entered_less {m} {es} n d = record {
   opened = λ i h. rw (same i h) (d.opened i (shorter i h));
   valued = λ i h. rw (same i h) (d.valued i (shorter i h));
   desked = λ i h. rw (same i h) (d.desked i (shorter i h));
@@ -90,7 +90,7 @@ entered-less {m} {es} n d = record {
     shorter i h = omega (arith, simp length-take at h)
 
     same : (i : ℕ) → i < length (take n es) → entry_at (take n es) i ≡ entry_at es i
-    same i h = get_or-take n es i noEntry (omega (arith, simp length-take at h))
+    same i h = get_or-take n es i no_entry (omega (arith, simp length-take at h))
 
 -- ---- at most as many entries stand as there are variables
 
@@ -126,11 +126,11 @@ count_none zero = refl
 count_none (suc n) = omega (arith, count_none n)
 
 -- an entry's variable is not that of an earlier one
-pub not_earlier : {m : Meaning} {es : List Entry} (i : ℕ) → Entered m es → i < length es → entered (take i es) (entry_at es i).variable ≡ false
-not_earlier {m} {es} i d h = by_bool (entered (take i es) (entry_at es i).variable)
-    (λ t. let r = entered-find (take i es) (entry_at es i).variable t in
+pub not_earlier_lem : {m : Meaning} {es : List Entry} (i : ℕ) → Entered m es → i < length es → entered (take i es) (entry_at es i).variable ≡ false
+not_earlier_lem {m} {es} i d h = by_bool (entered (take i es) (entry_at es i).variable)
+    (λ t. let r = entered_find (take i es) (entry_at es i).variable t in
     let l : r.0 < i = omega (arith, simp length-take at r.1) in
-    let s : r.0 ≡ i = d.distinct r.0 i (omega arith) h (rw (get_or-take i es r.0 noEntry l) at r.2) in
+    let s : r.0 ≡ i = d.distinct r.0 i (omega arith) h (rw (get_or-take i es r.0 no_entry l) at r.2) in
     absurd (omega arith))
     (λ t. t)
 
@@ -140,8 +140,8 @@ module _ {m : Meaning} {es : List Entry} (n : ℕ) (below : (x : ℕ) → m.open
   count_entries zero h = count_none n
   count_entries (suc i) h =
       let x = (entry_at es i).variable in
-      count-more n x (entered (take i es)) (entered (take (suc i) es)) (not_earlier i d h)
-      (λ k. rw (take-suc es i noEntry h) (entered-snoc (take i es) (entry_at es i) k))
+      count-more n x (entered (take i es)) (entered (take (suc i) es)) (not_earlier_lem i d h)
+      (λ k. rw (take-suc es i no_entry h) (entered_snoc (take i es) (entry_at es i) k))
       ∙ rw (count_entries i (omega arith), lt-ltb x n (below x (d.opened i h))) (omega arith)
 
   pub entries-few : length es ≤ n
@@ -151,8 +151,8 @@ module _ {m : Meaning} {es : List Entry} (n : ℕ) (below : (x : ℕ) → m.open
 
 -- mask and values are the words of the entries es
 pub record Words (es : List Entry) (mask values : ℕ) : Type 0 where
-  pub mask_is : mask ≡ enteredMask es
-  pub values-are : values ≡ enteredValues es
+  pub mask_is : mask ≡ entered_mask es
+  pub values_are : values ≡ entered_values es
 
 or_assoc : (a b c : ℕ) → bit_or (bit_or a b) c ≡ bit_or a (bit_or b c)
 or_assoc a b c = ext (bit_or (bit_or a b) c) (bit_or a (bit_or b c)) (λ k. simp bit-or (go (bit a k) (bit b k) (bit c k)))
@@ -161,72 +161,72 @@ or_assoc a b c = ext (bit_or (bit_or a b) c) (bit_or a (bit_or b c)) (λ k. simp
     go true q r = refl
     go false q r = refl
 
-pub mask-snoc : (es : List Entry) (e : Entry) → enteredMask (es ++ (e ∷ [])) ≡ bit_or (enteredMask es) (2 ^ e.variable)
-unfolding enteredMask
-mask-snoc [] e = or_zero_r (2 ^ e.variable)
-mask-snoc (d ∷ es) e = rw (mask-snoc es e) (sym (or_assoc (2 ^ d.variable) (enteredMask es) (2 ^ e.variable)))
+pub mask_snoc : (es : List Entry) (e : Entry) → entered_mask (es ++ (e ∷ [])) ≡ bit_or (entered_mask es) (2 ^ e.variable)
+unfolding entered_mask
+mask_snoc [] e = or_zero_r (2 ^ e.variable)
+mask_snoc (d ∷ es) e = rw (mask_snoc es e) (sym (or_assoc (2 ^ d.variable) (entered_mask es) (2 ^ e.variable)))
 
-pub values-snoc : (es : List Entry) (e : Entry) → enteredValues (es ++ (e ∷ [])) ≡ bit_or (enteredValues es) (valuePart e)
-unfolding enteredValues
-values-snoc [] e = or_zero_r (valuePart e)
-values-snoc (d ∷ es) e = rw (values-snoc es e) (sym (or_assoc (valuePart d) (enteredValues es) (valuePart e)))
+pub values_snoc : (es : List Entry) (e : Entry) → entered_values (es ++ (e ∷ [])) ≡ bit_or (entered_values es) (value_part e)
+unfolding entered_values
+values_snoc [] e = or_zero_r (value_part e)
+values_snoc (d ∷ es) e = rw (values_snoc es e) (sym (or_assoc (value_part d) (entered_values es) (value_part e)))
 
-pub bit-enteredMask : (es : List Entry) (k : ℕ) → bit (enteredMask es) k ≡ entered es k
-unfolding enteredMask entered
-bit-enteredMask [] k = bit-none k
-bit-enteredMask (e ∷ es) k = rw (bit-or, bit-pow, bit-enteredMask es k)
+pub bit-entered_mask : (es : List Entry) (k : ℕ) → bit (entered_mask es) k ≡ entered es k
+unfolding entered_mask entered
+bit-entered_mask [] k = bit-none k
+bit-entered_mask (e ∷ es) k = rw (bit-or, bit-pow, bit-entered_mask es k)
 
-pub bit-part : (e : Entry) (k : ℕ) → bit (valuePart e) k ≡ true → eqb k e.variable ≡ true
+pub bit-part : (e : Entry) (k : ℕ) → bit (value_part e) k ≡ true → eqb k e.variable ≡ true
 bit-part e k t = by_bool (eqb e.value 1)
     (λ h. sym (bit-pow e.variable k) ∙ (rw h at t))
     (λ h. clash (bit 0 k) (rw h at t) (bit-none k))
 
-pub bit-value : (es : List Entry) (k : ℕ) → bit (enteredValues es) k ≡ true → entered es k ≡ true
-unfolding enteredValues entered
+pub bit-value : (es : List Entry) (k : ℕ) → bit (entered_values es) k ≡ true → entered es k ≡ true
+unfolding entered_values entered
 bit-value [] k t = clash (bit 0 k) t (bit-none k)
-bit-value (e ∷ es) k t = or_cases (bit (valuePart e) k) (bit (enteredValues es) k) (sym (bit-or (valuePart e) (enteredValues es) k) ∙ t)
+bit-value (e ∷ es) k t = or_cases (bit (value_part e) k) (bit (entered_values es) k) (sym (bit-or (value_part e) (entered_values es) k) ∙ t)
     (λ h. or_left (eqb k e.variable) (entered es k) (bit-part e k h))
     (λ h. or_right (eqb k e.variable) (entered es k) (bit-value es k h))
 
 -- a variable that is not entered has no value
-pub value_none : (es : List Entry) (k : ℕ) → entered es k ≡ false → bit (enteredValues es) k ≡ false
-value_none es k f = by_bool (bit (enteredValues es) k) (λ t. clash (entered es k) (bit-value es k t) f) (λ t. t)
+pub value_none : (es : List Entry) (k : ℕ) → entered es k ≡ false → bit (entered_values es) k ≡ false
+value_none es k f = by_bool (bit (entered_values es) k) (λ t. clash (entered es k) (bit-value es k t) f) (λ t. t)
 
 -- the values lie in the mask
-pub values-mask : (es : List Entry) → Sub (enteredValues es) (enteredMask es)
-values-mask es = sub-bits (enteredValues es) (enteredMask es) (λ k t. bit-enteredMask es k ∙ bit-value es k t)
+pub values-mask : (es : List Entry) → Sub (entered_values es) (entered_mask es)
+values-mask es = sub-bits (entered_values es) (entered_mask es) (λ k t. bit-entered_mask es k ∙ bit-value es k t)
 
-pub words-valued : {es : List Entry} {mask values : ℕ} → Words es mask values → Sub values mask
-words-valued {es} w = rw (w.mask_is, w.values-are) (values-mask es)
+pub words_valued : {es : List Entry} {mask values : ℕ} → Words es mask values → Sub values mask
+words_valued {es} w = rw (w.mask_is, w.values_are) (values-mask es)
 
 -- ---- over a formula's meaning
 
-pub opens-below : (n : ℕ) (f : Formula) (g x : ℕ) → (meaning n f g).opens x ≡ true → x < n
+pub opens_below : (n : ℕ) (f : Formula) (g x : ℕ) → (meaning n f g).opens x ≡ true → x < n
 unfolding meaning
-opens-below n f g x t = ltb-true x n (and_both (ltb x n) (free f x) t).0
+opens_below n f g x t = ltb-true x n (and_both (ltb x n) (free f x) t).0
 
 -- what the code tests: a variable is open exactly if the word of the free variables has it
-pub bit-opens : (n : ℕ) (f : Formula) (g x : ℕ) → bit (freeMask n f) x ≡ (meaning n f g).opens x
-unfolding meaning freeMask
-bit-opens n f g x = bit-maskOf n (free f) x
+pub bit_opens : (n : ℕ) (f : Formula) (g x : ℕ) → bit (free_mask n f) x ≡ (meaning n f g).opens x
+unfolding meaning free_mask
+bit_opens n f g x = bit-mask_of n (free f) x
 
 module _ (n : ℕ) (f : Formula) (g : ℕ) {es : List Entry} (d : Entered (meaning n f g) es) where
   -- the mask lies in the free variables
-  pub mask-free : Sub (enteredMask es) (freeMask n f)
-  mask-free = sub-bits (enteredMask es) (freeMask n f) (λ k t.
-      let r = entered-find es k (sym (bit-enteredMask es k) ∙ t) in
-      bit-opens n f g k ∙ (rw r.2 at (d.opened r.0 r.1)))
+  pub mask-free : Sub (entered_mask es) (free_mask n f)
+  mask-free = sub-bits (entered_mask es) (free_mask n f) (λ k t.
+      let r = entered_find es k (sym (bit-entered_mask es k) ∙ t) in
+      bit_opens n f g k ∙ (rw r.2 at (d.opened r.0 r.1)))
 
-  pub words_opened : {mask values : ℕ} → Words es mask values → Sub mask (freeMask n f)
+  pub words_opened : {mask values : ℕ} → Words es mask values → Sub mask (free_mask n f)
   words_opened w = rw w.mask_is mask-free
 
-  pub mask_lt : enteredMask es < 2 ^ n
-  unfolding freeMask
-  mask_lt = omega (arith, sub-le mask-free, maskOf-lt n (free f))
+  pub mask_lt : entered_mask es < 2 ^ n
+  unfolding free_mask
+  mask_lt = omega (arith, sub-le mask-free, mask_of-lt n (free f))
 
-  pub values-lt : enteredValues es < 2 ^ n
+  pub values-lt : entered_values es < 2 ^ n
   values-lt = omega (arith, sub-le (values-mask es), mask_lt)
 
   -- at most as many entries stand as there are variables: a place fits a byte where n is 32 or 64
   pub entries-at-most : length es ≤ n
-  entries-at-most = entries-few n (opens-below n f g) d
+  entries-at-most = entries-few n (opens_below n f g) d

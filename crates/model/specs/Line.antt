@@ -7,14 +7,14 @@ use Rattle.words.specs.Logic.{by_bool, tests, not-false}
 use Rattle.sheet.specs.Refusal as Number
 use Rattle.model.specs.declared.Entry.{Entry}
 pub use Rattle.model.specs.Refused.{line_refused, line_taken}
-use Rattle.model.specs.Model.{Meaning, entered, refused, Reply, ENTER, TAKE-BACK, READ, ASK, unknown, lastDesk, lineRefusal, obeyed, line}
+use Rattle.model.specs.Model.{Meaning, entered, refused, Reply, ENTER, TAKE-BACK, READ, ASK, unknown, last_desk, line_refusal, obeyed, line}
 
 -- no cause of the rules' table refuses the line
 pub record Passes (m : Meaning) (es : List Entry) (k a b c : ℕ) : Type 0 where
   pub known : unknown k a b c ≡ false
   pub opened : k ≡ ENTER → m.opens a ≡ true
   pub valued : k ≡ ENTER → b < 2
-  pub desked : k ≡ ENTER → c ≤ lastDesk
+  pub desked : k ≡ ENTER → c ≤ last_desk
   pub fresh : k ≡ ENTER → entered es a ≡ false
   pub standing : k ≡ TAKE-BACK → 0 < length es
   pub there : k ≡ READ → a < length es
@@ -25,48 +25,48 @@ cond-zero true n r h e = absurd (omega (arith, ltb→lt 0 n h))
 cond-zero false n r h e = (refl, e)
 
 -- a test that was false at a kind
-of-kind : (j k : ℕ) (t : Bool) → (eqb k j && t) ≡ false → k ≡ j → t ≡ false
-of-kind j k t e s = by_bool (eqb k j) (λ h. rw h at e) (λ h. absurd (omega tests))
+of_kind : (j k : ℕ) (t : Bool) → (eqb k j && t) ≡ false → k ≡ j → t ≡ false
+of_kind j k t e s = by_bool (eqb k j) (λ h. rw h at e) (λ h. absurd (omega tests))
 
-unless-kind : (j k : ℕ) (t : Bool) → (k ≡ j → t ≡ false) → (eqb k j && t) ≡ false
-unless-kind j k t f = by_bool (eqb k j) (λ h. rw h (f (omega tests))) (λ h. rw h)
+unless_kind : (j k : ℕ) (t : Bool) → (k ≡ j → t ≡ false) → (eqb k j && t) ≡ false
+unless_kind j k t f = by_bool (eqb k j) (λ h. rw h (f (omega tests))) (λ h. rw h)
 
 not-zero : {n : ℕ} → eqb n 0 ≡ false → 0 < n
 not-zero {n} e = omega tests
 
 module _ (m : Meaning) (es : List Entry) (k a b c : ℕ) where
   -- a line gets the number 0 exactly if no cause refuses it
-  pub refusal-none : lineRefusal m es k a b c ≡ 0 → Passes m es k a b c
-  unfolding lineRefusal
+  pub refusal-none : line_refusal m es k a b c ≡ 0 → Passes m es k a b c
+  unfolding line_refusal
   refusal-none e =
-      let r12 = cond-zero _ Number.lineUnknown _ tt e in
-      let r13 = cond-zero _ Number.enterNotFree _ tt r12.1 in
-      let r14 = cond-zero _ Number.enterValue _ tt r13.1 in
-      let r24 = cond-zero _ Number.enterDesk _ tt r14.1 in
-      let r15 = cond-zero _ Number.enteredTwice _ tt r24.1 in
-      let r16 = cond-zero _ Number.nothingEntered _ tt r15.1 in
-      let r17 = cond-zero _ Number.noEntryThere _ tt r16.1 in
+      let r12 = cond-zero _ Number.line_unknown _ tt e in
+      let r13 = cond-zero _ Number.enter_not_free _ tt r12.1 in
+      let r14 = cond-zero _ Number.enter_value _ tt r13.1 in
+      let r24 = cond-zero _ Number.enter_desk _ tt r14.1 in
+      let r15 = cond-zero _ Number.entered_twice _ tt r24.1 in
+      let r16 = cond-zero _ Number.nothing_entered _ tt r15.1 in
+      let r17 = cond-zero _ Number.no_entry_there _ tt r16.1 in
       record {
         known = r12.0;
-        opened = λ h. not-false (m.opens a) (of-kind ENTER k (not (m.opens a)) r13.0 h);
-        valued = λ h. suc-le-suc (ltb-false 1 b (of-kind ENTER k (ltb 1 b) r14.0 h));
-        desked = λ h. ltb-false lastDesk c (of-kind ENTER k (ltb lastDesk c) r24.0 h);
-        fresh = λ h. of-kind ENTER k (entered es a) r15.0 h;
-        standing = λ h. not-zero (of-kind TAKE-BACK k (eqb (length es) 0) r16.0 h);
-        there = λ h. leb-false (length es) a (of-kind READ k (leb (length es) a) r17.0 h);
+        opened = λ h. not-false (m.opens a) (of_kind ENTER k (not (m.opens a)) r13.0 h);
+        valued = λ h. suc-le-suc (ltb-false 1 b (of_kind ENTER k (ltb 1 b) r14.0 h));
+        desked = λ h. ltb-false last_desk c (of_kind ENTER k (ltb last_desk c) r24.0 h);
+        fresh = λ h. of_kind ENTER k (entered es a) r15.0 h;
+        standing = λ h. not-zero (of_kind TAKE-BACK k (eqb (length es) 0) r16.0 h);
+        there = λ h. leb-false (length es) a (of_kind READ k (leb (length es) a) r17.0 h);
       }
 
-  pub none-refusal : Passes m es k a b c → lineRefusal m es k a b c ≡ 0
-  unfolding lineRefusal
+  pub none-refusal : Passes m es k a b c → line_refusal m es k a b c ≡ 0
+  unfolding line_refusal
   none-refusal p =
       rw (
         p.known,
-        unless-kind ENTER k (not (m.opens a)) (λ h. rw (p.opened h)),
-        unless-kind ENTER k (ltb 1 b) (λ h. omega (tests, p.valued h)),
-        unless-kind ENTER k (ltb lastDesk c) (λ h. omega (tests, p.desked h)),
-        unless-kind ENTER k (entered es a) p.fresh,
-        unless-kind TAKE-BACK k (eqb (length es) 0) (λ h. omega (tests, p.standing h)),
-        unless-kind READ k (leb (length es) a) (λ h. omega (tests, p.there h)),
+        unless_kind ENTER k (not (m.opens a)) (λ h. rw (p.opened h)),
+        unless_kind ENTER k (ltb 1 b) (λ h. omega (tests, p.valued h)),
+        unless_kind ENTER k (ltb last_desk c) (λ h. omega (tests, p.desked h)),
+        unless_kind ENTER k (entered es a) p.fresh,
+        unless_kind TAKE-BACK k (eqb (length es) 0) (λ h. omega (tests, p.standing h)),
+        unless_kind READ k (leb (length es) a) (λ h. omega (tests, p.there h)),
       )
 
   obeyed-number : (obeyed m es k a b c).answer.number ≡ 0
@@ -75,9 +75,9 @@ module _ (m : Meaning) (es : List Entry) (k a b c : ℕ) where
       (λ t. by_bool (eqb k TAKE-BACK) (λ u. rw (t, u)) (λ u. by_bool (eqb k READ) (λ v. rw (t, u, v)) (λ v. by_bool (eqb k ASK) (λ w. rw (t, u, v, w)) (λ w. rw (t, u, v, w)))))
 
   -- the number that a line answers is that of its refusal
-  pub line-number : (line m es k a b c).answer.number ≡ lineRefusal m es k a b c
-  line-number = by_bool (eqb (lineRefusal m es k a b c) 0)
-      (λ t. let e : lineRefusal m es k a b c ≡ 0 = omega tests in rw (line_taken m es k a b c e, e) obeyed-number)
+  pub line-number : (line m es k a b c).answer.number ≡ line_refusal m es k a b c
+  line-number = by_bool (eqb (line_refusal m es k a b c) 0)
+      (λ t. let e : line_refusal m es k a b c ≡ 0 = omega tests in rw (line_taken m es k a b c e, e) obeyed-number)
       (λ t. rw (line_refused m es k a b c (omega tests)))
 
   -- a line that is refused changes nothing

@@ -9,7 +9,7 @@ use Rattle.formula.specs.Formula.{Formula, free}
 use Rattle.formula.specs.Ask.{Verdict}
 use Rattle.formula.specs.Gauges.{verdict, reason}
 use Rattle.sheet.specs.Refusal as Number
-use Rattle.sheet.specs.Rules.{spareSet}
+use Rattle.sheet.specs.Rules.{spare_set}
 use Rattle.model.specs.declared.Entry.{Entry}
 
 -- what the model takes from a formula: which variables are open, and what ASK and WHY say of a mask of entered variables and their values
@@ -25,24 +25,24 @@ meaning n f g = record { opens = λ x. ltb x n && free f x; asks = verdict n f g
 -- ---- entries
 
 -- read where no entry stands
-abbrev pub noEntry : Entry
-noEntry = record { variable = 0; value = 0; desk = 0 }
+abbrev pub no_entry : Entry
+no_entry = record { variable = 0; value = 0; desk = 0 }
 
 -- entry i, 0 being the oldest
 abbrev pub entry_at : List Entry → ℕ → Entry
-entry_at es i = get_or es i noEntry
+entry_at es i = get_or es i no_entry
 
 -- the variables entered, and those of them with value 1, as words
-unfoldable pub enteredMask : List Entry → ℕ
-enteredMask [] = 0
-enteredMask (e ∷ es) = bit_or (2 ^ e.variable) (enteredMask es)
+unfoldable pub entered_mask : List Entry → ℕ
+entered_mask [] = 0
+entered_mask (e ∷ es) = bit_or (2 ^ e.variable) (entered_mask es)
 
-abbrev pub valuePart : Entry → ℕ
-valuePart e = cond (eqb e.value 1) (2 ^ e.variable) 0
+abbrev pub value_part : Entry → ℕ
+value_part e = cond (eqb e.value 1) (2 ^ e.variable) 0
 
-unfoldable pub enteredValues : List Entry → ℕ
-enteredValues [] = 0
-enteredValues (e ∷ es) = bit_or (valuePart e) (enteredValues es)
+unfoldable pub entered_values : List Entry → ℕ
+entered_values [] = 0
+entered_values (e ∷ es) = bit_or (value_part e) (entered_values es)
 
 -- x is the variable of an entry
 unfoldable pub entered : List Entry → ℕ → Bool
@@ -58,8 +58,8 @@ pub record Answer : Type 0 where
   pub word : ℕ
 
 -- the bytes of an answer: two, and a word of the form
-unfoldable pub answerBytes : Form → Answer → List ℕ
-answerBytes F a = a.number ∷ a.v ∷ bytes_of (word_bytes F) a.word
+unfoldable pub answer_bytes : Form → Answer → List ℕ
+answer_bytes F a = a.number ∷ a.v ∷ bytes_of (word_bytes F) a.word
 
 abbrev pub refused : ℕ → Answer
 refused number = record { number = number; v = 0; word = 0 }
@@ -98,22 +98,22 @@ used k = cond (eqb k ENTER) 3 (cond (eqb k READ) 1 0)
 
 -- the kind is none of the five, or a spare byte is not 0
 unfoldable pub unknown : ℕ → ℕ → ℕ → ℕ → Bool
-unknown k a b c = ltb k ENTER || (ltb WHY k || spareSet (used k) a b c)
+unknown k a b c = ltb k ENTER || (ltb WHY k || spare_set (used k) a b c)
 
 -- the desks that may enter are 0 to 7
-abbrev pub lastDesk : ℕ
-lastDesk = 7
+abbrev pub last_desk : ℕ
+last_desk = 7
 
 -- the number by which a line is refused, or 0: document 01's order for a line, with the desk between the value and the second entry
-unfoldable pub lineRefusal : Meaning → List Entry → ℕ → ℕ → ℕ → ℕ → ℕ
-lineRefusal m es k a b c =
-    cond (unknown k a b c) Number.lineUnknown
-    (cond (eqb k ENTER && not (m.opens a)) Number.enterNotFree
-    (cond (eqb k ENTER && ltb 1 b) Number.enterValue
-    (cond (eqb k ENTER && ltb lastDesk c) Number.enterDesk
-    (cond (eqb k ENTER && entered es a) Number.enteredTwice
-    (cond (eqb k TAKE-BACK && eqb (length es) 0) Number.nothingEntered
-    (cond (eqb k READ && leb (length es) a) Number.noEntryThere 0))))))
+unfoldable pub line_refusal : Meaning → List Entry → ℕ → ℕ → ℕ → ℕ → ℕ
+line_refusal m es k a b c =
+    cond (unknown k a b c) Number.line_unknown
+    (cond (eqb k ENTER && not (m.opens a)) Number.enter_not_free
+    (cond (eqb k ENTER && ltb 1 b) Number.enter_value
+    (cond (eqb k ENTER && ltb last_desk c) Number.enter_desk
+    (cond (eqb k ENTER && entered es a) Number.entered_twice
+    (cond (eqb k TAKE-BACK && eqb (length es) 0) Number.nothing_entered
+    (cond (eqb k READ && leb (length es) a) Number.no_entry_there 0))))))
 
 -- what a line answers, and the entries that stand after it
 pub record Reply : Type 0 where
@@ -129,13 +129,13 @@ obeyed m es k a b c =
     let enter = reply (counted (length es + 1)) (es ++ (record { variable = a; value = b; desk = c } ∷ [])) in
     let takeBack = reply (told (entry_at es (length es - 1))) (take (length es - 1) es) in
     let read = reply (told (entry_at es a)) es in
-    let ask = reply (judged (m.asks (enteredMask es) (enteredValues es))) es in
-    let why = reply (judged (m.whys (enteredMask es) (enteredValues es))) es in
+    let ask = reply (judged (m.asks (entered_mask es) (entered_values es))) es in
+    let why = reply (judged (m.whys (entered_mask es) (entered_values es))) es in
     cond (eqb k ENTER) enter (cond (eqb k TAKE-BACK) takeBack (cond (eqb k READ) read (cond (eqb k ASK) ask why)))
 
 unfoldable pub line : Meaning → List Entry → ℕ → ℕ → ℕ → ℕ → Reply
 line m es k a b c =
-    let number = lineRefusal m es k a b c in
+    let number = line_refusal m es k a b c in
     let obey = obeyed m es k a b c in
     cond (eqb number 0) obey (reply (refused number) es)
 
@@ -155,17 +155,17 @@ after m es s zero = es
 after m es s (suc i) = (line_at m s (after m es s i) i).entries
 
 -- what line i answers
-unfoldable pub answerAt : Meaning → List Entry → List ℕ → ℕ → Answer
-answerAt m es s i = (line_at m s (after m es s i) i).answer
+unfoldable pub answer_at : Meaning → List Entry → List ℕ → ℕ → Answer
+answer_at m es s i = (line_at m s (after m es s i) i).answer
 
 -- the bytes of the first i answers
-unfoldable pub answersTo : Form → Meaning → List Entry → List ℕ → ℕ → List ℕ
-answersTo F m es s zero = []
-answersTo F m es s (suc i) = answersTo F m es s i ++ answerBytes F (answerAt m es s i)
+unfoldable pub answers_to : Form → Meaning → List Entry → List ℕ → ℕ → List ℕ
+answers_to F m es s zero = []
+answers_to F m es s (suc i) = answers_to F m es s i ++ answer_bytes F (answer_at m es s i)
 
 -- a whole script, from no entry: the bytes of its answers, and the entries that stand after it
 unfoldable pub answers : Form → Meaning → List ℕ → List ℕ
-answers F m s = answersTo F m [] s (lines s)
+answers F m s = answers_to F m [] s (lines s)
 
 unfoldable pub standing : Meaning → List ℕ → List Entry
 standing m s = after m [] s (lines s)

@@ -4,10 +4,10 @@ use Rattle.std.proofs.Common.{arith, sym, ap, ap₂, ◌∙◌, inl, inr, ⊎_el
 use Rattle.words.specs.Logic.{by_bool, tests}
 use Rattle.sheet.specs.Refusal as Number
 use Rattle.model.specs.declared.Entry.{Entry}
-use Rattle.model.specs.Model.{Meaning, Answer, answerBytes, Reply, told, refused, READ, line, line_at, after, answerAt, answersTo}
+use Rattle.model.specs.Model.{Meaning, Answer, answer_bytes, Reply, told, refused, READ, line, line_at, after, answer_at, answers_to}
 use Rattle.model.specs.Entries.{Entered, entry_at}
-use Rattle.model.specs.Kinds.{read-line}
-use Rattle.model.specs.Script.{eachByte, answerBytes-are}
+use Rattle.model.specs.Kinds.{read_line}
+use Rattle.model.specs.Script.{each_byte, answer_bytes_are}
 use Rattle.form.specs.declared.Form.{Form}
 use Rattle.form.specs.declared.Form.TheVariants.{Narrow, Wide}
 use Rattle.model.specs.Refused.{read_past}
@@ -33,12 +33,12 @@ same-or-other e d = by_bool (eqb e.variable d.variable)
     (λ w. inr (λ s. let z : e.value ≡ d.value = ap (λ (x : Entry). x.value) s in omega tests)))
     (λ v. inr (λ s. let z : e.variable ≡ d.variable = ap (λ (x : Entry). x.variable) s in omega tests))
 
-pub first-difference : (es ds : List Entry) → (es ≡ ds) ⊎ ((i : ℕ) × FirstDifference es ds i)
-first-difference [] [] = inl refl
-first-difference [] (d ∷ ds) = inr (0, record { before = refl; reach = (omega arith, omega arith); apart = λ h l s. absurd (omega arith); ends = λ h l. omega arith })
-first-difference (e ∷ es) [] = inr (0, record { before = refl; reach = (omega arith, omega arith); apart = λ h l s. absurd (omega arith); ends = λ h l. omega arith })
-first-difference (e ∷ es) (d ∷ ds) = ⊎_elim
-    (λ t. ⊎_elim (λ s. inl (ap₂ ◌∷◌ t s)) (λ r. inr (suc r.0, later t r.0 r.1)) (first-difference es ds))
+pub first_difference : (es ds : List Entry) → (es ≡ ds) ⊎ ((i : ℕ) × FirstDifference es ds i)
+first_difference [] [] = inl refl
+first_difference [] (d ∷ ds) = inr (0, record { before = refl; reach = (omega arith, omega arith); apart = λ h l s. absurd (omega arith); ends = λ h l. omega arith })
+first_difference (e ∷ es) [] = inr (0, record { before = refl; reach = (omega arith, omega arith); apart = λ h l s. absurd (omega arith); ends = λ h l. omega arith })
+first_difference (e ∷ es) (d ∷ ds) = ⊎_elim
+    (λ t. ⊎_elim (λ s. inl (ap₂ ◌∷◌ t s)) (λ r. inr (suc r.0, later t r.0 r.1)) (first_difference es ds))
     (λ t. inr (0, record { before = refl; reach = (omega arith, omega arith); apart = λ h l s. t s; ends = λ h l. omega arith }))
     (same-or-other e d)
   where
@@ -53,54 +53,54 @@ first-difference (e ∷ es) (d ∷ ds) = ⊎_elim
 -- ---- one READ line shows it
 
 -- the script of one line that reads place i
-abbrev pub readScript : ℕ → List ℕ
-readScript i = READ ∷ i ∷ 0 ∷ 0 ∷ []
+abbrev pub read_script : ℕ → List ℕ
+read_script i = READ ∷ i ∷ 0 ∷ 0 ∷ []
 
 -- what it answers
-pub read-bytes : (F : Form) (m : Meaning) (es : List Entry) (i : ℕ) → answersTo F m es (readScript i) 1 ≡ answerBytes F (line m es READ i 0 0).answer
-unfolding answersTo answerAt after line_at
-read-bytes F m es i = refl
+pub read_bytes : (F : Form) (m : Meaning) (es : List Entry) (i : ℕ) → answers_to F m es (read_script i) 1 ≡ answer_bytes F (line m es READ i 0 0).answer
+unfolding answers_to answer_at after line_at
+read_bytes F m es i = refl
 
 -- equal bytes have equal V, and words that are equal in their last two bytes
-told-v : (F : Form) (x y : Answer) → eachByte F x ≡ eachByte F y → x.v ≡ y.v
-told-v Narrow x y t = ap (λ (b : List ℕ). get_or b 1 0) t
-told-v Wide x y t = ap (λ (b : List ℕ). get_or b 1 0) t
+told_v : (F : Form) (x y : Answer) → each_byte F x ≡ each_byte F y → x.v ≡ y.v
+told_v Narrow x y t = ap (λ (b : List ℕ). get_or b 1 0) t
+told_v Wide x y t = ap (λ (b : List ℕ). get_or b 1 0) t
 
-told-word : (F : Form) (x y : Answer) → eachByte F x ≡ eachByte F y → (x.word / 2 ^ 8 % 256 ≡ y.word / 2 ^ 8 % 256) × (x.word % 256 ≡ y.word % 256)
+told-word : (F : Form) (x y : Answer) → each_byte F x ≡ each_byte F y → (x.word / 2 ^ 8 % 256 ≡ y.word / 2 ^ 8 % 256) × (x.word % 256 ≡ y.word % 256)
 told-word Narrow x y t = (ap (λ (b : List ℕ). get_or b 4 0) t, ap (λ (b : List ℕ). get_or b 5 0) t)
 told-word Wide x y t = (ap (λ (b : List ℕ). get_or b 8 0) t, ap (λ (b : List ℕ). get_or b 9 0) t)
 
 -- an entry's answer is that entry's alone
-told-entry : (F : Form) {m : Meaning} {es ds : List Entry} (i : ℕ) → Entered m es → Entered m ds → i < length es → i < length ds
-    → answerBytes F (told (entry_at es i)) ≡ answerBytes F (told (entry_at ds i)) → entry_at es i ≡ entry_at ds i
-told-entry F {es = es} {ds = ds} i a b h l s =
-    let t = sym (answerBytes-are F (told (entry_at es i))) ∙ s ∙ answerBytes-are F (told (entry_at ds i)) in
+told_entry : (F : Form) {m : Meaning} {es ds : List Entry} (i : ℕ) → Entered m es → Entered m ds → i < length es → i < length ds
+    → answer_bytes F (told (entry_at es i)) ≡ answer_bytes F (told (entry_at ds i)) → entry_at es i ≡ entry_at ds i
+told_entry F {es = es} {ds = ds} i a b h l s =
+    let t = sym (answer_bytes_are F (told (entry_at es i))) ∙ s ∙ answer_bytes_are F (told (entry_at ds i)) in
     let w = told-word F (told (entry_at es i)) (told (entry_at ds i)) t in
-    entry-is (told-v F (told (entry_at es i)) (told (entry_at ds i)) t)
+    entry-is (told_v F (told (entry_at es i)) (told (entry_at ds i)) t)
     (omega (arith, w.1, a.valued i h, b.valued i l))
     (omega (arith, w.0, a.valued i h, b.valued i l, a.desked i h, b.desked i l))
 
 -- and no refusal's
-told-refused : (F : Form) (e : Entry) (n : ℕ) → 0 < n → answerBytes F (told e) ≡ answerBytes F (refused n) → ⊥
-unfolding answerBytes
+told-refused : (F : Form) (e : Entry) (n : ℕ) → 0 < n → answer_bytes F (told e) ≡ answer_bytes F (refused n) → ⊥
+unfolding answer_bytes
 told-refused F e n h s = let z : 0 ≡ n = ap (λ (b : List ℕ). get_or b 0 0) s in omega arith
 
 module _ (F : Form) {m : Meaning} {es ds : List Entry} (a : Entered m es) (b : Entered m ds) (i : ℕ) (D : FirstDifference es ds i) where
-  pub read-shows : answersTo F m es (readScript i) 1 ≡ answersTo F m ds (readScript i) 1 → ⊥
-  read-shows s = by_bool (ltb i (length es))
+  pub read_shows : answers_to F m es (read_script i) 1 ≡ answers_to F m ds (read_script i) 1 → ⊥
+  read_shows s = by_bool (ltb i (length es))
       (λ t. by_bool (ltb i (length ds))
-      (λ u. D.apart (omega tests) (omega tests) (told-entry F i a b (omega tests) (omega tests)
+      (λ u. D.apart (omega tests) (omega tests) (told_entry F i a b (omega tests) (omega tests)
       (sym (there es (omega tests)) ∙ bytes ∙ there ds (omega tests))))
-      (λ u. told-refused F (entry_at es i) Number.noEntryThere (omega arith) (sym (there es (omega tests)) ∙ bytes ∙ past ds (omega tests))))
+      (λ u. told-refused F (entry_at es i) Number.no_entry_there (omega arith) (sym (there es (omega tests)) ∙ bytes ∙ past ds (omega tests))))
       (λ t. by_bool (ltb i (length ds))
-      (λ u. told-refused F (entry_at ds i) Number.noEntryThere (omega arith) (sym (there ds (omega tests)) ∙ sym bytes ∙ past es (omega tests)))
+      (λ u. told-refused F (entry_at ds i) Number.no_entry_there (omega arith) (sym (there ds (omega tests)) ∙ sym bytes ∙ past es (omega tests)))
       (λ u. D.ends (omega (tests, D.reach)) (omega (tests, D.reach))))
     where
-      bytes : answerBytes F (line m es READ i 0 0).answer ≡ answerBytes F (line m ds READ i 0 0).answer
-      bytes = sym (read-bytes F m es i) ∙ s ∙ read-bytes F m ds i
+      bytes : answer_bytes F (line m es READ i 0 0).answer ≡ answer_bytes F (line m ds READ i 0 0).answer
+      bytes = sym (read_bytes F m es i) ∙ s ∙ read_bytes F m ds i
 
-      there : (l : List Entry) → i < length l → answerBytes F (line m l READ i 0 0).answer ≡ answerBytes F (told (entry_at l i))
-      there l h = ap (λ (r : Reply). answerBytes F r.answer) (read-line m l i h)
+      there : (l : List Entry) → i < length l → answer_bytes F (line m l READ i 0 0).answer ≡ answer_bytes F (told (entry_at l i))
+      there l h = ap (λ (r : Reply). answer_bytes F r.answer) (read_line m l i h)
 
-      past : (l : List Entry) → length l ≤ i → answerBytes F (line m l READ i 0 0).answer ≡ answerBytes F (refused Number.noEntryThere)
-      past l h = ap (λ (r : Reply). answerBytes F r.answer) (read_past m l i h)
+      past : (l : List Entry) → length l ≤ i → answer_bytes F (line m l READ i 0 0).answer ≡ answer_bytes F (refused Number.no_entry_there)
+      past l h = ap (λ (r : Reply). answer_bytes F r.answer) (read_past m l i h)

@@ -8,8 +8,8 @@ use Rattle.net.specs.Net.{Node, Binds, Net, replace, replace-here, replace-other
 
 -- ---- fewer nodes, fewer variables, both masks
 
-pub clear-less : {N : Net} {a b z : ℕ} → Clear N a z → b ≤ a → Clear N b z
-clear-less C h = record { apart = λ j l e. C.apart j (omega arith) e }
+pub clear_less : {N : Net} {a b z : ℕ} → Clear N a z → b ≤ a → Clear N b z
+clear_less C h = record { apart = λ j l e. C.apart j (omega arith) e }
 
 pub clear-sub : {N : Net} {a y z : ℕ} → Clear N a z → Sub y z → Clear N a y
 clear-sub C s = record { apart = λ j l e. apart-sub (C.apart j l e) s }
@@ -19,8 +19,8 @@ clear_or C D = record { apart = λ j l e. apart-sym (or_apart (apart-sym (C.apar
 
 -- ---- one node replaced
 
-pub ranged-replace : (n : ℕ) (N : Net) (g : ℕ) (u : Node) → ((k : ℕ) → Ranged n (N k)) → Ranged n u → (k : ℕ) → Ranged n (replace N g u k)
-ranged-replace n N g u r h k =
+pub ranged_replace : (n : ℕ) (N : Net) (g : ℕ) (u : Node) → ((k : ℕ) → Ranged n (N k)) → Ranged n u → (k : ℕ) → Ranged n (replace N g u k)
+ranged_replace n N g u r h k =
     by_bool (eqb k g)
     (λ e. rw (eqb-true k g e, replace-here N g u) h)
     (λ e. rw (replace-other N g u k e) (r k))
@@ -43,9 +43,9 @@ module _ {N : Net} {g m : ℕ} (d : Bool) (x : ℕ) where
       }
 
   -- they are bound nowhere in x, nor are they bound by a quantifier that has node g in its body
-  pub distinct-replace : Distinct N → Clear (replace N g (Binds d m x)) x m
+  pub distinct_replace : Distinct N → Clear (replace N g (Binds d m x)) x m
       → ((i : ℕ) (e : Bool) (n y : ℕ) → N i ≡ Binds e n y → g ≤ y → Apart m n) → Distinct (replace N g (Binds d m x))
-  distinct-replace D own outer =
+  distinct_replace D own outer =
       record {
         below = λ i {d = e} {m = n} {x = y} t. by_bool (eqb i g)
             (λ s.

@@ -5,39 +5,39 @@ use Rattle.std.proofs.Math.Path.{fun_ext}
 use Rattle.words.specs.Logic.{by_bool, tests}
 use Rattle.sheet.specs.Fields.{Sheet}
 use Rattle.net.specs.Net.{Net, meaning}
-use Rattle.net.specs.Layout.{form-same, framesOf, first_word, secondWord, unpack, packed, changed, formulaAt, Ground}
+use Rattle.net.specs.Layout.{form_same, frames_of, first_word, second_word, unpack, packed, changed, formula_at, Ground}
 use Rattle.net.specs.Sheet.{NetOf, last}
-use Rattle.net.specs.Link.{lowPart, Linked}
+use Rattle.net.specs.Link.{low_part, Linked}
 
 -- ---- the bits that a node is read from
 
-low-op : (x : ℕ) → x % 8 ≡ lowPart x % 8
-unfolding lowPart
-low-op x = omega arith
+low_op : (x : ℕ) → x % 8 ≡ low_part x % 8
+unfolding low_part
+low_op x = omega arith
 
-low-changed : (x : ℕ) → x % 16 ≡ lowPart x % 16
-unfolding lowPart
+low-changed : (x : ℕ) → x % 16 ≡ low_part x % 16
+unfolding low_part
 low-changed x = omega arith
 
-low-left : (x : ℕ) → x / 16 % 4096 ≡ lowPart x / 16 % 4096
-unfolding lowPart
+low-left : (x : ℕ) → x / 16 % 4096 ≡ low_part x / 16 % 4096
+unfolding low_part
 low-left x = omega arith
 
-low-right : (x : ℕ) → x / 65536 % 4096 ≡ lowPart x / 65536 % 4096
-unfolding lowPart
+low-right : (x : ℕ) → x / 65536 % 4096 ≡ low_part x / 65536 % 4096
+unfolding low_part
 low-right x = omega arith
 
-pub unpack-low : (x y m : ℕ) → lowPart x ≡ lowPart y → unpack x m ≡ unpack y m
+pub unpack-low : (x y m : ℕ) → low_part x ≡ low_part y → unpack x m ≡ unpack y m
 unfolding unpack
-unpack-low x y m e = rw (low-op x, low-left x, low-right x, low-op y, low-left y, low-right y, e)
+unpack-low x y m e = rw (low_op x, low-left x, low-right x, low_op y, low-left y, low-right y, e)
 
 -- ---- links stored
 
-pub linked-refl : (net : List ℕ) → Linked net net
-linked-refl net = record { long = refl; count = refl; opens = refl; gauged = refl; nodes = λ k. refl; changes = λ k. refl; behind = λ i h. refl }
+pub linked_refl : (net : List ℕ) → Linked net net
+linked_refl net = record { long = refl; count = refl; opens = refl; gauged = refl; nodes = λ k. refl; changes = λ k. refl; behind = λ i h. refl }
 
-pub linked-trans : {a b c : List ℕ} → Linked a b → Linked b c → Linked a c
-linked-trans {a} {b} {c} L M =
+pub linked_trans : {a b c : List ℕ} → Linked a b → Linked b c → Linked a c
+linked_trans {a} {b} {c} L M =
     record {
       long = M.long ∙ L.long;
       count = M.count ∙ L.count;
@@ -52,9 +52,9 @@ set_other : {net' : List ℕ} (net : List ℕ) (i x : ℕ) → net' ≡ set net 
 set_other net i x is j h = ap (λ (l : List ℕ). get_or l j 0) is ∙ get_or-set_other net i j x 0 h
 
 -- one word, before the places behind the frames
-linked-set : {net net' : List ℕ} (i x : ℕ) → 3 ≤ i → i < first_word (framesOf net) → net' ≡ set net i x → ((k : ℕ) → packed net' k ≡ packed net k)
+linked_set : {net net' : List ℕ} (i x : ℕ) → 3 ≤ i → i < first_word (frames_of net) → net' ≡ set net i x → ((k : ℕ) → packed net' k ≡ packed net k)
     → ((k : ℕ) → changed net' k ≡ changed net k) → Linked net net'
-linked-set {net} {net'} i x a b is nodes changes =
+linked_set {net} {net'} i x a b is nodes changes =
     record {
       long = ap length is ∙ simp length-set;
       count = set_other net i x is 0 (λ q. omega arith);
@@ -66,15 +66,15 @@ linked-set {net} {net'} i x a b is nodes changes =
     }
 
 -- the first word of a node, with the same low part
-pub linked-relink : {net net' : List ℕ} (k w : ℕ) → Ground net → k < framesOf net → lowPart w ≡ lowPart (get_or net (first_word k) 0)
+pub linked_relink : {net net' : List ℕ} (k w : ℕ) → Ground net → k < frames_of net → low_part w ≡ low_part (get_or net (first_word k) 0)
     → net' ≡ set net (first_word k) w → Linked net net'
 unfolding packed changed
-linked-relink {net} {net'} k w G l e is =
-    linked-set (first_word k) w (omega arith) (omega arith) is
+linked_relink {net} {net'} k w G l e is =
+    linked_set (first_word k) w (omega arith) (omega arith) is
     (λ j. by_bool (eqb j k)
-    (λ q. rw (eqb-true j k q) (ap₂ unpack here (other (secondWord k) (λ z. omega arith))
-    ∙ unpack-low w (get_or net (first_word k) 0) (get_or net (secondWord k) 0) e))
-    (λ q. ap₂ unpack (other (first_word j) (λ z. omega tests)) (other (secondWord j) (λ z. omega arith))))
+    (λ q. rw (eqb-true j k q) (ap₂ unpack here (other (second_word k) (λ z. omega arith))
+    ∙ unpack-low w (get_or net (first_word k) 0) (get_or net (second_word k) 0) e))
+    (λ q. ap₂ unpack (other (first_word j) (λ z. omega tests)) (other (second_word j) (λ z. omega arith))))
     (λ j. by_bool (eqb j k)
     (λ q. rw (eqb-true j k q) (ap (λ (y : ℕ). ltb 7 (y % 16)) here ∙ rw (low-changed w, low-changed (get_or net (first_word k) 0), e)))
     (λ q. ap (λ (y : ℕ). ltb 7 (y % 16)) (other (first_word j) (λ z. omega tests))))
@@ -86,43 +86,43 @@ linked-relink {net} {net'} k w G l e is =
     here = ap (λ (r : List ℕ). get_or r (first_word k) 0) is ∙ get_or-set_same net (first_word k) w 0 (omega (arith, G.room))
 
 -- the link of a variable
-pub linked-reader : {net net' : List ℕ} (i x : ℕ) → 3 ≤ i → i < 67 → net' ≡ set net i x → Linked net net'
+pub linked_reader : {net net' : List ℕ} (i x : ℕ) → 3 ≤ i → i < 67 → net' ≡ set net i x → Linked net net'
 unfolding packed changed
-linked-reader {net} {net'} i x a b is =
-    linked-set i x a (omega arith) is
-    (λ j. ap₂ unpack (set_other net i x is (first_word j) (λ z. omega arith)) (set_other net i x is (secondWord j) (λ z. omega arith)))
+linked_reader {net} {net'} i x a b is =
+    linked_set i x a (omega arith) is
+    (λ j. ap₂ unpack (set_other net i x is (first_word j) (λ z. omega arith)) (set_other net i x is (second_word j) (λ z. omega arith)))
     (λ j. ap (λ (y : ℕ). ltb 7 (y % 16)) (set_other net i x is (first_word j) (λ z. omega arith)))
 
 -- ---- what stays
 
 module _ {net net' : List ℕ} (L : Linked net net') where
-  linked-same : packed net' ≡ packed net
-  linked-same = fun_ext L.nodes
+  linked_same : packed net' ≡ packed net
+  linked_same = fun_ext L.nodes
 
-  pub linked-formula : (k : ℕ) → formulaAt net' k ≡ formulaAt net k
-  linked-formula k = ap (λ (N : Net). meaning N k) linked-same
+  pub linked_formula : (k : ℕ) → formula_at net' k ≡ formula_at net k
+  linked_formula k = ap (λ (N : Net). meaning N k) linked_same
 
-pub linked-ground : {net net' : List ℕ} → Ground net → Linked net net' → Ground net'
-linked-ground {net} {net'} G L =
+pub linked_ground : {net net' : List ℕ} → Ground net → Linked net net' → Ground net'
+linked_ground {net} {net'} G L =
     record {
-      ordered = rw (linked-same L) G.ordered;
-      ranged = λ k. rw (form-same net net' L.long, L.nodes k) (G.ranged k);
-      distinct = rw (linked-same L) G.distinct;
+      ordered = rw (linked_same L) G.ordered;
+      ranged = λ k. rw (form_same net net' L.long, L.nodes k) (G.ranged k);
+      distinct = rw (linked_same L) G.distinct;
       room = omega (arith, G.room, L.long, L.count);
       few = omega (arith, G.few, L.long);
     }
 
-pub linked-net : {s : Sheet} {net net' : List ℕ} → Linked net net' → NetOf s net → NetOf s net'
-linked-net {s} {net} {net'} L N =
+pub linked_net : {s : Sheet} {net net' : List ℕ} → Linked net net' → NetOf s net → NetOf s net'
+linked_net {s} {net} {net'} L N =
     record {
-      ground = linked-ground N.ground L;
+      ground = linked_ground N.ground L;
       long = L.long ∙ N.long;
       count = L.count ∙ N.count;
       opens = L.opens ∙ N.opens;
       bounded = N.bounded;
-      each = λ k h q. rw (linked-formula L k) (N.each k h (sym (L.changes k) ∙ q));
-      ends = rw (linked-formula L (last s)) N.ends;
+      each = λ k h q. rw (linked_formula L k) (N.each k h (sym (L.changes k) ∙ q));
+      ends = rw (linked_formula L (last s)) N.ends;
       gauged = L.gauged ∙ N.gauged;
-      clear = rw (linked-same L, L.opens) N.clear;
+      clear = rw (linked_same L, L.opens) N.clear;
       empty = λ i h. L.behind i (omega (arith, L.count)) ∙ N.empty i (omega (arith, L.count));
     }

@@ -7,8 +7,8 @@ use Rattle.words.specs.Logic.{by_bool}
 use Rattle.formula.specs.Assignment.{join}
 use Rattle.formula.specs.Formula.{Formula, truth, free}
 use Rattle.formula.specs.Over.{over-over, over-over-free}
-use Rattle.net.specs.Net.{Node, Fixed, Reads, Flips, Joins, Binds, Net, build, meaning, Fit, Ordered, meaning-is, fit_at, at-node, at-binds, replace, replace-here, replace-other, ordered-replace, upward}
-use Rattle.net.specs.Stands.{Stands, over-stands, stands-refl, stands-trans}
+use Rattle.net.specs.Net.{Node, Fixed, Reads, Flips, Joins, Binds, Net, build, meaning, Fit, Ordered, meaning-is, fit_at, at_node, at-binds, replace, replace-here, replace-other, ordered-replace, upward}
+use Rattle.net.specs.Stands.{Stands, over-stands, stands-refl, stands_trans}
 
 -- what is built of formulas that stand for each other
 build-stands : (f g : ℕ → Formula) (k : ℕ) (u : Node) → Fit k u → ((a : ℕ) → a < k → Stands (f a) (g a)) → Stands (build f u) (build g u)
@@ -28,25 +28,25 @@ pub replace-stands : (N : Net) (g : ℕ) (u : Node) → Ordered N → Fit g u �
 replace-stands N g u o w s =
     upward (λ k. Stands (meaning N k) (meaning (replace N g u) k)) (λ k h. by_bool (eqb k g)
     (λ e. let q = eqb-true k g e in
-    rw (q, at-node (ordered-replace N g u o w) (replace-here N g u))
-    (stands-trans s (build-stands (meaning N) (meaning (replace N g u)) g u w (λ a l. h a (rw q l)))))
-    (λ e. rw (at-node (ordered-replace N g u o w) (replace-other N g u k e), meaning-is N o k)
+    rw (q, at_node (ordered-replace N g u o w) (replace-here N g u))
+    (stands_trans s (build-stands (meaning N) (meaning (replace N g u)) g u w (λ a l. h a (rw q l)))))
+    (λ e. rw (at_node (ordered-replace N g u o w) (replace-other N g u k e), meaning-is N o k)
     (build-stands (meaning N) (meaning (replace N g u)) k (N k) (o.fit k) h)))
 
 -- ---- nest: the quantifier k over the quantifier q of its kind
 
 module _ {N : Net} {k q x m n : ℕ} {d : Bool} (o : Ordered N) (outer : N k ≡ Binds d m q) (inner : N q ≡ Binds d n x) where
-  pub nest-fit : Fit k (Binds d (bit_or m n) x)
-  nest-fit = omega (arith, fit_at o outer, fit_at o inner)
+  pub nest_fit : Fit k (Binds d (bit_or m n) x)
+  nest_fit = omega (arith, fit_at o outer, fit_at o inner)
 
-  pub nest-stands : (j : ℕ) → Stands (meaning N j) (meaning (replace N k (Binds d (bit_or m n) x)) j)
+  pub nest_stands : (j : ℕ) → Stands (meaning N j) (meaning (replace N k (Binds d (bit_or m n) x)) j)
   unfolding build
-  nest-stands =
-      replace-stands N k (Binds d (bit_or m n) x) o nest-fit
+  nest_stands =
+      replace-stands N k (Binds d (bit_or m n) x) o nest_fit
       (rw (at-binds o outer, at-binds o inner) (record {
         same = λ σ. sym (over-over d m n (meaning N x) σ);
         reads = λ y. sym (over-over-free d m n (meaning N x) y);
       }))
 
-  pub nest-ordered : Ordered (replace N k (Binds d (bit_or m n) x))
-  nest-ordered = ordered-replace N k (Binds d (bit_or m n) x) o nest-fit
+  pub nest_ordered : Ordered (replace N k (Binds d (bit_or m n) x))
+  nest_ordered = ordered-replace N k (Binds d (bit_or m n) x) o nest_fit

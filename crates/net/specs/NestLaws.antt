@@ -6,12 +6,12 @@ use Rattle.words.specs.Logic.{by_bool}
 use Rattle.words.specs.Mask.{or_apart}
 use Rattle.form.specs.Form as Sizes
 use Rattle.sheet.specs.Fields.{Sheet}
-use Rattle.net.specs.Net.{Node, Binds, Net, node_of, node-binds, replace, fit_at, Ordered, Clear, Distinct}
-use Rattle.net.specs.Clear.{clear-less, clear_or, clear-replace, distinct-replace, ranged-replace}
-use Rattle.net.specs.Stands.{stands-trans, stands-serves, serves-trans}
-use Rattle.net.specs.Nest.{nest-stands, nest-ordered}
-use Rattle.net.specs.Layout.{netForm, form-same, framesOf, unpack, packed, changed, Ground, Is, is-binds}
-use Rattle.net.specs.StoreLaws.{Stored, stored-long, stored_other, stored-count, stored-opens, stored-gauged, stored-changed, stored-net}
+use Rattle.net.specs.Net.{Node, Binds, Net, node_of, node_binds, replace, fit_at, Ordered, Clear, Distinct}
+use Rattle.net.specs.Clear.{clear_less, clear_or, clear-replace, distinct_replace, ranged_replace}
+use Rattle.net.specs.Stands.{stands_trans, stands_serves, serves_trans}
+use Rattle.net.specs.Nest.{nest_stands, nest_ordered}
+use Rattle.net.specs.Layout.{net_form, form_same, frames_of, unpack, packed, changed, Ground, Is, is-binds}
+use Rattle.net.specs.StoreLaws.{Stored, stored-long, stored_other, stored-count, stored_opens, stored-gauged, stored-changed, stored_net}
 use Rattle.net.specs.Sheet.{NetOf, last}
 
 -- ---- in the net
@@ -20,15 +20,15 @@ module _ {N : Net} {k q x m n : ℕ} {d : Bool} (o : Ordered N) (outer : N k ≡
   pub nest_clear : {a z : ℕ} → Clear N a z → Clear (replace N k (Binds d (bit_or m n) x)) a z
   nest_clear C = clear-replace d x C (λ l. or_apart (C.apart k l outer) (C.apart q (omega (arith, fit_at o outer)) inner))
 
-  pub nest-distinct : Distinct N → Distinct (replace N k (Binds d (bit_or m n) x))
-  nest-distinct D =
-      distinct-replace d x D
-      (nest_clear (clear_or (clear-less (D.below k outer) (omega (arith, fit_at o inner))) (D.below q inner)))
+  pub nest_distinct : Distinct N → Distinct (replace N k (Binds d (bit_or m n) x))
+  nest_distinct D =
+      distinct_replace d x D
+      (nest_clear (clear_or (clear_less (D.below k outer) (omega (arith, fit_at o inner))) (D.below q inner)))
       (λ i e z y t l. let C = D.below i t in or_apart (C.apart k l outer) (C.apart q (omega (arith, fit_at o outer)) inner))
 
 -- ---- in the words
 
-module _ {s : Sheet} {net net' : List ℕ} {k op left right mask op' left' right' mask' w : ℕ} (N : NetOf s net) (l : k < framesOf net) (kept : changed net k ≡ false)
+module _ {s : Sheet} {net net' : List ℕ} {k op left right mask op' left' right' mask' w : ℕ} (N : NetOf s net) (l : k < frames_of net) (kept : changed net k ≡ false)
     (I : Is net k op left right mask) (h : 6 ≤ op) (J : Is net left op' left' right' mask') (same : op' ≡ op)
     (W : unpack w (bit_or mask mask') ≡ node_of op left' 0 (bit_or mask mask')) (S : Stored net k w (bit_or mask mask') net') where
   abbrev both : Node
@@ -41,14 +41,14 @@ module _ {s : Sheet} {net net' : List ℕ} {k op left right mask op' left' right
   inner = rw same at (is-binds N.ground J (omega arith))
 
   nested : packed net' ≡ replace (packed net) k both
-  nested = stored-net S (omega (arith, N.ground.room)) ∙ ap (replace (packed net) k) (W ∙ node-binds op left' 0 (bit_or mask mask') h)
+  nested = stored_net S (omega (arith, N.ground.room)) ∙ ap (replace (packed net) k) (W ∙ node_binds op left' 0 (bit_or mask mask') h)
 
-  nested-ground : Ground net'
-  nested-ground =
+  nested_ground : Ground net'
+  nested_ground =
       record {
-        ordered = rw nested (nest-ordered N.ground.ordered outer inner);
-        ranged = λ j. rw (nested, form-same net net' (stored-long S)) (ranged-replace (Sizes.variables (netForm net)) (packed net) k both N.ground.ranged tt j);
-        distinct = rw nested (nest-distinct N.ground.ordered outer inner N.ground.distinct);
+        ordered = rw nested (nest_ordered N.ground.ordered outer inner);
+        ranged = λ j. rw (nested, form_same net net' (stored-long S)) (ranged_replace (Sizes.variables (net_form net)) (packed net) k both N.ground.ranged tt j);
+        distinct = rw nested (nest_distinct N.ground.ordered outer inner N.ground.distinct);
         room = omega (arith, N.ground.room, stored-long S, stored-count S);
         few = omega (arith, N.ground.few, stored-long S);
       }
@@ -56,17 +56,17 @@ module _ {s : Sheet} {net net' : List ℕ} {k op left right mask op' left' right
   unchanged : (j : ℕ) → changed net' j ≡ false → changed net j ≡ false
   unchanged j q = by_bool (eqb j k) (λ e. rw (eqb-true j k e) kept) (λ e. sym (stored-changed S j e) ∙ q)
 
-  pub nested-net : NetOf s net'
-  nested-net =
+  pub nested_net : NetOf s net'
+  nested_net =
       record {
-        ground = nested-ground;
+        ground = nested_ground;
         long = stored-long S ∙ N.long;
         count = stored-count S ∙ N.count;
-        opens = stored-opens S ∙ N.opens;
+        opens = stored_opens S ∙ N.opens;
         bounded = N.bounded;
-        each = λ j i q. rw nested (stands-trans (N.each j i (unchanged j q)) (nest-stands N.ground.ordered outer inner j));
-        ends = rw nested (serves-trans N.ends (stands-serves (nest-stands N.ground.ordered outer inner (last s))));
+        each = λ j i q. rw nested (stands_trans (N.each j i (unchanged j q)) (nest_stands N.ground.ordered outer inner j));
+        ends = rw nested (serves_trans N.ends (stands_serves (nest_stands N.ground.ordered outer inner (last s))));
         gauged = stored-gauged S ∙ N.gauged;
-        clear = rw (nested, stored-opens S) (nest_clear N.ground.ordered outer inner N.clear);
+        clear = rw (nested, stored_opens S) (nest_clear N.ground.ordered outer inner N.clear);
         empty = λ i h. stored_other S i (λ e. omega (arith, stored-count S)) (λ e. omega (arith, stored-count S)) ∙ N.empty i (omega (arith, stored-count S));
       }

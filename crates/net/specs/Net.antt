@@ -35,25 +35,25 @@ node_of op left right mask =
     (cond (ltb op 6) (Joins (eqb op 5) left right) (Binds (eqb op 6) mask left))))
 
 module _ (op left right mask : ℕ) where
-  pub node-fixed : op < 2 → node_of op left right mask ≡ Fixed (eqb op 1)
+  pub node_fixed : op < 2 → node_of op left right mask ≡ Fixed (eqb op 1)
   unfolding node_of
-  node-fixed h = rw (lt-ltb op 2 h)
+  node_fixed h = rw (lt-ltb op 2 h)
 
-  pub node-reads : op ≡ 2 → node_of op left right mask ≡ Reads left
+  pub node_reads : op ≡ 2 → node_of op left right mask ≡ Reads left
   unfolding node_of
-  node-reads e = rw e
+  node_reads e = rw e
 
-  pub node-flips : op ≡ 3 → node_of op left right mask ≡ Flips left
+  pub node_flips : op ≡ 3 → node_of op left right mask ≡ Flips left
   unfolding node_of
-  node-flips e = rw e
+  node_flips e = rw e
 
-  pub node-joins : 4 ≤ op → op < 6 → node_of op left right mask ≡ Joins (eqb op 5) left right
+  pub node_joins : 4 ≤ op → op < 6 → node_of op left right mask ≡ Joins (eqb op 5) left right
   unfolding node_of
-  node-joins h l = rw (le-ltb op 2 (omega arith), ne_eqb op 2 (λ e. omega arith), ne_eqb op 3 (λ e. omega arith), lt-ltb op 6 l)
+  node_joins h l = rw (le-ltb op 2 (omega arith), ne_eqb op 2 (λ e. omega arith), ne_eqb op 3 (λ e. omega arith), lt-ltb op 6 l)
 
-  pub node-binds : 6 ≤ op → node_of op left right mask ≡ Binds (eqb op 6) mask left
+  pub node_binds : 6 ≤ op → node_of op left right mask ≡ Binds (eqb op 6) mask left
   unfolding node_of
-  node-binds h = rw (le-ltb op 2 (omega arith), ne_eqb op 2 (λ e. omega arith), ne_eqb op 3 (λ e. omega arith), le-ltb op 6 h)
+  node_binds h = rw (le-ltb op 2 (omega arith), ne_eqb op 2 (λ e. omega arith), ne_eqb op 3 (λ e. omega arith), le-ltb op 6 h)
 
 -- node g is u, the others are as they were
 unfoldable pub replace : Net → ℕ → Node → Net
@@ -111,16 +111,16 @@ build-same f g k (Flips a) w e = ap neg (e a w)
 build-same f g k (Joins d a b) w e = ap₂ (gate d) (e a w.0) (e b w.1)
 build-same f g k (Binds d m a) w e = ap (over d m) (e a w)
 
-depth-free : (N : Net) → Ordered N → (n m k : ℕ) → k < n → k < m → tree n N k ≡ tree m N k
+depth_free : (N : Net) → Ordered N → (n m k : ℕ) → k < n → k < m → tree n N k ≡ tree m N k
 unfolding tree
-depth-free N o zero m k i j = absurd (omega arith)
-depth-free N o (suc n) zero k i j = absurd (omega arith)
-depth-free N o (suc n) (suc m) k i j = build-same (tree n N) (tree m N) k (N k) (o.fit k) (λ a e. depth-free N o n m a (omega arith) (omega arith))
+depth_free N o zero m k i j = absurd (omega arith)
+depth_free N o (suc n) zero k i j = absurd (omega arith)
+depth_free N o (suc n) (suc m) k i j = build-same (tree n N) (tree m N) k (N k) (o.fit k) (λ a e. depth_free N o n m a (omega arith) (omega arith))
 
 -- a node's formula is built of those of the nodes that it names
 pub meaning-is : (N : Net) → Ordered N → (k : ℕ) → meaning N k ≡ build (meaning N) (N k)
 unfolding meaning tree
-meaning-is N o k = build-same (tree k N) (meaning N) k (N k) (o.fit k) (λ a i. depth-free N o k (suc a) a i (omega arith))
+meaning-is N o k = build-same (tree k N) (meaning N) k (N k) (o.fit k) (λ a i. depth_free N o k (suc a) a i (omega arith))
 
 -- ---- by kind
 
@@ -128,12 +128,12 @@ module _ {N : Net} (o : Ordered N) {k : ℕ} where
   pub fit_at : {u : Node} → N k ≡ u → Fit k u
   fit_at e = subst (λ (u : Node). Fit k u) e (o.fit k)
 
-  pub at-node : {u : Node} → N k ≡ u → meaning N k ≡ build (meaning N) u
-  at-node e = meaning-is N o k ∙ rw e
+  pub at_node : {u : Node} → N k ≡ u → meaning N k ≡ build (meaning N) u
+  at_node e = meaning-is N o k ∙ rw e
 
-  pub at-fixed : {v : Bool} → N k ≡ Fixed v → (σ : Assignment) → value N k σ ≡ v
+  pub at_fixed : {v : Bool} → N k ≡ Fixed v → (σ : Assignment) → value N k σ ≡ v
   unfolding build truth
-  at-fixed {v} e σ = ap (λ (f : Formula). truth f σ) (at-node e) ∙ go v
+  at_fixed {v} e σ = ap (λ (f : Formula). truth f σ) (at_node e) ∙ go v
     where
       go : (t : Bool) → truth (build (meaning N) (Fixed t)) σ ≡ t
       go true = refl
@@ -141,23 +141,23 @@ module _ {N : Net} (o : Ordered N) {k : ℕ} where
 
   pub at_reads : {x : ℕ} → N k ≡ Reads x → meaning N k ≡ input x
   unfolding build
-  at_reads e = at-node e
+  at_reads e = at_node e
 
-  pub at-flips : {a : ℕ} → N k ≡ Flips a → meaning N k ≡ neg (meaning N a)
+  pub at_flips : {a : ℕ} → N k ≡ Flips a → meaning N k ≡ neg (meaning N a)
   unfolding build
-  at-flips e = at-node e
+  at_flips e = at_node e
 
   pub at-joins : {d : Bool} {a b : ℕ} → N k ≡ Joins d a b → meaning N k ≡ gate d (meaning N a) (meaning N b)
   unfolding build
-  at-joins e = at-node e
+  at-joins e = at_node e
 
   pub at-binds : {d : Bool} {m a : ℕ} → N k ≡ Binds d m a → meaning N k ≡ over d m (meaning N a)
   unfolding build
-  at-binds e = at-node e
+  at-binds e = at_node e
 
-  pub at-fixed-free : {v : Bool} → N k ≡ Fixed v → (x : ℕ) → frees N k x ≡ false
+  pub at_fixed_free : {v : Bool} → N k ≡ Fixed v → (x : ℕ) → frees N k x ≡ false
   unfolding build free
-  at-fixed-free {v} e x = ap (λ (f : Formula). free f x) (at-node e) ∙ go v
+  at_fixed_free {v} e x = ap (λ (f : Formula). free f x) (at_node e) ∙ go v
     where
       go : (t : Bool) → free (build (meaning N) (Fixed t)) x ≡ false
       go true = refl
@@ -197,12 +197,12 @@ Ranged n (Flips a) = Unit {0}
 Ranged n (Joins d a b) = Unit {0}
 Ranged n (Binds d m a) = Unit {0}
 
-pub ranged-more : {n m : ℕ} (u : Node) → n ≤ m → Ranged n u → Ranged m u
-ranged-more (Fixed v) h r = tt
-ranged-more (Reads x) h r = omega arith
-ranged-more (Flips a) h r = tt
-ranged-more (Joins d a b) h r = tt
-ranged-more (Binds d m a) h r = tt
+pub ranged_more : {n m : ℕ} (u : Node) → n ≤ m → Ranged n u → Ranged m u
+ranged_more (Fixed v) h r = tt
+ranged_more (Reads x) h r = omega arith
+ranged_more (Flips a) h r = tt
+ranged_more (Joins d a b) h r = tt
+ranged_more (Binds d m a) h r = tt
 
 -- no quantifier among the nodes up to a binds a variable of z
 pub record Clear (N : Net) (a z : ℕ) : Type 0 where
@@ -212,9 +212,9 @@ pub record Clear (N : Net) (a z : ℕ) : Type 0 where
 pub record Distinct (N : Net) : Type 0 where
   pub below : (k : ℕ) {d : Bool} {m x : ℕ} → N k ≡ Binds d m x → Clear N x m
 
-pub bounded-net : (n : ℕ) (N : Net) → Ordered N → ((k : ℕ) → Ranged n (N k)) → (k : ℕ) → Bounded n (meaning N k)
+pub bounded_net : (n : ℕ) (N : Net) → Ordered N → ((k : ℕ) → Ranged n (N k)) → (k : ℕ) → Bounded n (meaning N k)
 unfolding build
-bounded-net n N o r = upward (λ k. Bounded n (meaning N k)) (λ k h. rw (meaning-is N o k) (go k (N k) (o.fit k) (r k) h))
+bounded_net n N o r = upward (λ k. Bounded n (meaning N k)) (λ k h. rw (meaning-is N o k) (go k (N k) (o.fit k) (r k) h))
   where
     go : (k : ℕ) (u : Node) → Fit k u → Ranged n u → ((j : ℕ) → j < k → Bounded n (meaning N j)) → Bounded n (build (meaning N) u)
     go k (Fixed true) w r h = bounded-neg (bounded-never n)

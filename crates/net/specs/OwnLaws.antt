@@ -7,25 +7,25 @@ use Rattle.words.specs.Mask.{Sub, Apart, apart-sub, apart-sym, sub-or-left, sub-
 use Rattle.formula.specs.Over.{over}
 use Rattle.form.specs.Form as Sizes
 use Rattle.sheet.specs.Fields.{Sheet}
-use Rattle.net.specs.Net.{Node, Fixed, Binds, node_of, node-fixed, node-reads, node-flips, node-joins, node-binds, replace, replace-here, replace-other, fit_at, at-binds, meaning-agree, ordered-replace, Clear, Distinct}
-use Rattle.net.specs.Clear.{clear-sub, clear-replace, distinct-replace, ranged-replace}
-use Rattle.net.specs.Layout.{netForm, form-same, framesOf, freeOf, first_word, secondWord, HasNode, unpack, packed, formulaAt, Ground, Is, val, decides}
-use Rattle.net.specs.StoreLaws.{Stored, stored-long, stored_other, stored-count, stored-first, stored-second, stored-changed, stored-net, none-behind}
+use Rattle.net.specs.Net.{Node, Fixed, Binds, node_of, node_fixed, node_reads, node_flips, node_joins, node_binds, replace, replace-here, replace-other, fit_at, at-binds, meaning-agree, ordered-replace, Clear, Distinct}
+use Rattle.net.specs.Clear.{clear-sub, clear-replace, distinct_replace, ranged_replace}
+use Rattle.net.specs.Layout.{net_form, form_same, frames_of, free_of, first_word, second_word, HasNode, unpack, packed, formula_at, Ground, Is, val, decides}
+use Rattle.net.specs.StoreLaws.{Stored, stored-long, stored_other, stored-count, stored-first, stored_second, stored-changed, stored_net, none-behind}
 use Rattle.net.specs.Sheet.{NetOf}
 use Rattle.net.specs.Own.{Chosen, Forgotten, Stacked}
 
 -- ---- as the code has them
 
 -- 8 - d is the op of the quantifier that d decides
-pub put-chosen : {net net' : List ℕ} {i at d mask w : ℕ} → at ≡ framesOf net + i → 0 < d → d < 3
+pub put_chosen : {net net' : List ℕ} {i at d mask w : ℕ} → at ≡ frames_of net + i → 0 < d → d < 3
     → unpack w mask ≡ node_of (8 - d) (at - 1) 0 mask → Stored net at w mask net' → Chosen net i d mask net'
 unfolding val
-put-chosen {net} {net'} {i} {at} {d} {mask} {w} e a b W S =
+put_chosen {net} {net'} {i} {at} {d} {mask} {w} e a b W S =
     record {
       word = w;
       is = rw (← e) S.is;
       node = W
-          ∙ node-binds (8 - d) (at - 1) 0 mask (omega arith)
+          ∙ node_binds (8 - d) (at - 1) 0 mask (omega arith)
           ∙ ap₂ (λ (t : Bool) (x : ℕ). Binds t mask x)
           (by_bool (eqb d 2) (λ q. rw q (eq-eqb (8 - d) 6 (omega tests))) (λ q. rw q (ne_eqb (8 - d) 6 (λ z. omega tests))))
           (ap (λ (x : ℕ). x - 1) e);
@@ -33,16 +33,16 @@ put-chosen {net} {net'} {i} {at} {d} {mask} {w} e a b W S =
 
 -- a place emptied
 stored-zero : {net net' : List ℕ} {k : ℕ} → Stored net k 0 0 net' → HasNode net k
-    → (i : ℕ) → (eqb i (first_word k) ≡ false → eqb i (secondWord k) ≡ false → get_or net i 0 ≡ 0) → get_or net' i 0 ≡ 0
+    → (i : ℕ) → (eqb i (first_word k) ≡ false → eqb i (second_word k) ≡ false → get_or net i 0 ≡ 0) → get_or net' i 0 ≡ 0
 stored-zero {net} {net'} {k} S h i f = by_bool (eqb i (first_word k))
     (λ p. let e : i ≡ first_word k = omega tests in rw e (stored-first S h))
-    (λ p. by_bool (eqb i (secondWord k))
-    (λ q. let e : i ≡ secondWord k = omega tests in rw e (stored-second S h))
+    (λ p. by_bool (eqb i (second_word k))
+    (λ q. let e : i ≡ second_word k = omega tests in rw e (stored_second S h))
     (λ q. stored_other S i (λ e. omega tests) (λ e. omega tests) ∙ f p q))
 
-pub put-forgotten : {net n₁ n₂ n₃ : List ℕ} {n : ℕ} → Ground net → n ≡ framesOf net
+pub put_forgotten : {net n₁ n₂ n₃ : List ℕ} {n : ℕ} → Ground net → n ≡ frames_of net
     → Stored net n 0 0 n₁ → Stored n₁ (n + 1) 0 0 n₂ → Stored n₂ (n + 2) 0 0 n₃ → Forgotten net n₃
-put-forgotten {net} {n₁} {n₂} {n₃} {n} G e S T U =
+put_forgotten {net} {n₁} {n₂} {n₃} {n} G e S T U =
     record {
       long = stored-long U ∙ stored-long T ∙ stored-long S;
       emptied = λ i a b. by_bool (ltb i (first_word (n + 1)))
@@ -55,7 +55,7 @@ put-forgotten {net} {n₁} {n₂} {n₃} {n} G e S T U =
       others = λ i h. other i h;
     }
   where
-    other : (i : ℕ) → (i < first_word (framesOf net) ⊎ first_word (framesOf net + 3) ≤ i) → get_or n₃ i 0 ≡ get_or net i 0
+    other : (i : ℕ) → (i < first_word (frames_of net) ⊎ first_word (frames_of net + 3) ≤ i) → get_or n₃ i 0 ≡ get_or net i 0
     other i (inl h) =
         stored_other U i (λ z. omega arith) (λ z. omega arith) ∙ stored_other T i (λ z. omega arith) (λ z. omega arith) ∙ stored_other S i (λ z. omega arith) (λ z. omega arith)
     other i (inr h) =
@@ -64,24 +64,24 @@ put-forgotten {net} {n₁} {n₂} {n₃} {n} G e S T U =
 -- ---- none yet
 
 -- a quantifier is no constant
-fixed-binds : {d : Bool} {m x : ℕ} → Fixed false ≡ Binds d m x → ⊥
-fixed-binds e = let z : ◌≡◌ {A = ℕ} 0 1 = cc in omega arith
+fixed_binds : {d : Bool} {m x : ℕ} → Fixed false ≡ Binds d m x → ⊥
+fixed_binds e = let z : ◌≡◌ {A = ℕ} 0 1 = cc in omega arith
 
-net-behind : {s : Sheet} {net : List ℕ} → NetOf s net → (k : ℕ) → framesOf net ≤ k → packed net k ≡ Fixed false
-net-behind {s} {net} N = none-behind net (framesOf net) N.empty
+net_behind : {s : Sheet} {net : List ℕ} → NetOf s net → (k : ℕ) → frames_of net ≤ k → packed net k ≡ Fixed false
+net_behind {s} {net} N = none-behind net (frames_of net) N.empty
 
 -- no node at all binds a free variable
-net-clear : {s : Sheet} {net : List ℕ} → NetOf s net → (a : ℕ) → Clear (packed net) a (freeOf net)
-net-clear {s} {net} N a =
+net_clear : {s : Sheet} {net : List ℕ} → NetOf s net → (a : ℕ) → Clear (packed net) a (free_of net)
+net_clear {s} {net} N a =
     record {
-      apart = λ j l e. by_bool (ltb j (framesOf net))
+      apart = λ j l e. by_bool (ltb j (frames_of net))
           (λ i. N.clear.apart j (omega (tests, N.count)) e)
-          (λ i. absurd (fixed-binds (sym (net-behind N j (omega tests)) ∙ e)));
+          (λ i. absurd (fixed_binds (sym (net_behind N j (omega tests)) ∙ e)));
     }
 
-pub stacked-none : {s : Sheet} {net : List ℕ} → NetOf s net → 0 < framesOf net → Stacked s net net 0 0
-stacked-none {s} {net} N h = record {
-  net-of = N;
+pub stacked_none : {s : Sheet} {net : List ℕ} → NetOf s net → 0 < frames_of net → Stacked s net net 0 0
+stacked_none {s} {net} N h = record {
+  net_of = N;
   some = h;
   within = omega arith;
   ground = N.ground;
@@ -89,17 +89,17 @@ stacked-none {s} {net} N h = record {
   long = refl;
   same = λ k l. refl;
   changes = λ k l. refl;
-  clear = λ i a k. clear-sub (net-clear N k) i;
-  behind = λ k l. net-behind N k (omega arith);
+  clear = λ i a k. clear-sub (net_clear N k) i;
+  behind = λ k l. net_behind N k (omega arith);
   others = λ i h. refl;
 }
 
 -- ---- one more
 
 module _ {s : Sheet} {base net : List ℕ} {i used d mask : ℕ} {net' : List ℕ} (S : Stacked s base net i used) (l : i < 3)
-    (inside : Sub mask (freeOf base)) (fresh : Apart used mask) (C : Chosen net i d mask net') where
+    (inside : Sub mask (free_of base)) (fresh : Apart used mask) (C : Chosen net i d mask net') where
   abbrev place : ℕ
-  place = framesOf net + i
+  place = frames_of net + i
 
   stored : Stored net place C.word mask net'
   stored = record { is = C.is }
@@ -107,102 +107,102 @@ module _ {s : Sheet} {base net : List ℕ} {i used d mask : ℕ} {net' : List �
   abbrev own : Node
   own = Binds (val d) mask (place - 1)
 
-  some-frames : 0 < framesOf net
+  some-frames : 0 < frames_of net
   some-frames = omega (arith, S.some, S.frames-same)
 
-  chosen-net : packed net' ≡ replace (packed net) place own
-  chosen-net = stored-net stored (omega (arith, S.ground.room)) ∙ ap (replace (packed net) place) C.node
+  chosen_net : packed net' ≡ replace (packed net) place own
+  chosen_net = stored_net stored (omega (arith, S.ground.room)) ∙ ap (replace (packed net) place) C.node
 
-  chosen-count : framesOf net' ≡ framesOf net
-  chosen-count = stored-count stored
+  chosen_count : frames_of net' ≡ frames_of net
+  chosen_count = stored-count stored
 
-  chosen-distinct : Distinct (packed net')
-  chosen-distinct =
-      rw chosen-net
-      (distinct-replace (val d) (place - 1) S.ground.distinct
+  chosen_distinct : Distinct (packed net')
+  chosen_distinct =
+      rw chosen_net
+      (distinct_replace (val d) (place - 1) S.ground.distinct
       (clear-replace (val d) (place - 1) (S.clear inside fresh (place - 1)) (λ h. absurd (omega (arith, some-frames))))
-      (λ j e n y t h. absurd (fixed-binds (sym (S.behind j (omega (arith, S.frames-same, fit_at S.ground.ordered t))) ∙ t))))
+      (λ j e n y t h. absurd (fixed_binds (sym (S.behind j (omega (arith, S.frames-same, fit_at S.ground.ordered t))) ∙ t))))
 
-  pub chosen-ground : Ground net'
-  chosen-ground =
+  pub chosen_ground : Ground net'
+  chosen_ground =
       record {
-        ordered = rw chosen-net (ordered-replace (packed net) place own S.ground.ordered (omega (arith, some-frames)));
-        ranged = λ j. rw (chosen-net, form-same net net' (stored-long stored)) (ranged-replace (Sizes.variables (netForm net)) (packed net) place own S.ground.ranged tt j);
-        distinct = chosen-distinct;
-        room = omega (arith, S.ground.room, stored-long stored, chosen-count);
+        ordered = rw chosen_net (ordered-replace (packed net) place own S.ground.ordered (omega (arith, some-frames)));
+        ranged = λ j. rw (chosen_net, form_same net net' (stored-long stored)) (ranged_replace (Sizes.variables (net_form net)) (packed net) place own S.ground.ranged tt j);
+        distinct = chosen_distinct;
+        room = omega (arith, S.ground.room, stored-long stored, chosen_count);
         few = omega (arith, S.ground.few, stored-long stored);
       }
 
   -- the nodes before it stand for what they stood for
-  pub chosen-same : (k : ℕ) → k < place → formulaAt net' k ≡ formulaAt net k
-  chosen-same k h =
-      meaning-agree (packed net) (packed net') S.ground.ordered chosen-ground.ordered k
-      (λ j m. rw chosen-net (replace-other (packed net) place own j (ne_eqb j place (λ e. omega arith))))
+  pub chosen_same : (k : ℕ) → k < place → formula_at net' k ≡ formula_at net k
+  chosen_same k h =
+      meaning-agree (packed net) (packed net') S.ground.ordered chosen_ground.ordered k
+      (λ j m. rw chosen_net (replace-other (packed net) place own j (ne_eqb j place (λ e. omega arith))))
 
-  pub chosen-node : packed net' place ≡ Binds (val d) mask (place - 1)
-  chosen-node = rw chosen-net (replace-here (packed net) place own)
+  pub chosen_node : packed net' place ≡ Binds (val d) mask (place - 1)
+  chosen_node = rw chosen_net (replace-here (packed net) place own)
 
   -- and it is the quantifier over the one before it
-  pub chosen-formula : formulaAt net' place ≡ over (val d) mask (formulaAt net (place - 1))
-  chosen-formula =
-      at-binds chosen-ground.ordered chosen-node ∙ ap (over (val d) mask) (chosen-same (place - 1) (omega (arith, some-frames)))
+  pub chosen_formula : formula_at net' place ≡ over (val d) mask (formula_at net (place - 1))
+  chosen_formula =
+      at-binds chosen_ground.ordered chosen_node ∙ ap (over (val d) mask) (chosen_same (place - 1) (omega (arith, some-frames)))
 
-  pub stacked-more : Stacked s base net' (i + 1) (bit_or used mask)
-  stacked-more = record {
-    net-of = S.net-of;
+  pub stacked_more : Stacked s base net' (i + 1) (bit_or used mask)
+  stacked_more = record {
+    net_of = S.net_of;
     some = S.some;
     within = omega arith;
-    ground = chosen-ground;
-    frames-same = chosen-count ∙ S.frames-same;
+    ground = chosen_ground;
+    frames-same = chosen_count ∙ S.frames-same;
     long = stored-long stored ∙ S.long;
-    same = λ k h. chosen-same k (omega (arith, S.frames-same)) ∙ S.same k h;
+    same = λ k h. chosen_same k (omega (arith, S.frames-same)) ∙ S.same k h;
     changes = λ k h. stored-changed stored k (ne_eqb k place (λ e. omega (arith, S.frames-same))) ∙ S.changes k h;
-    clear = λ {m} t a k. rw chosen-net
+    clear = λ {m} t a k. rw chosen_net
         (clear-replace (val d) (place - 1) (S.clear t (apart-sym (apart-sub (apart-sym a) (sub-or-left used mask))) k) (λ h. apart-sym (apart-sub (apart-sym a) (sub-or-right used mask))));
-    behind = λ k h. rw chosen-net (replace-other (packed net) place own k (ne_eqb k place (λ e. omega (arith, S.frames-same))) ∙ S.behind k (omega arith));
+    behind = λ k h. rw chosen_net (replace-other (packed net) place own k (ne_eqb k place (λ e. omega (arith, S.frames-same))) ∙ S.behind k (omega arith));
     others = λ j h. other j h;
   }
     where
-      other : (j : ℕ) → (j < first_word (framesOf base) ⊎ first_word (framesOf base + 3) ≤ j) → get_or net' j 0 ≡ get_or base j 0
+      other : (j : ℕ) → (j < first_word (frames_of base) ⊎ first_word (frames_of base + 3) ≤ j) → get_or net' j 0 ≡ get_or base j 0
       other j (inl h) = stored_other stored j (λ e. omega (arith, S.frames-same)) (λ e. omega (arith, S.frames-same)) ∙ S.others j (inl h)
       other j (inr h) = stored_other stored j (λ e. omega (arith, S.frames-same)) (λ e. omega (arith, S.frames-same)) ∙ S.others j (inr h)
 
 -- ---- forgetting gives the net back
 
-pub stacked-back : {s : Sheet} {base net : List ℕ} {count used : ℕ} {net' : List ℕ} → Stacked s base net count used → Forgotten net net' → net' ≡ base
-stacked-back {s} {base} {net} {count} {used} {net'} S F =
-    ext_get_or 0 net' base (F.long ∙ S.long) (λ i h. by_bool (ltb i (first_word (framesOf base)))
+pub stacked_back : {s : Sheet} {base net : List ℕ} {count used : ℕ} {net' : List ℕ} → Stacked s base net count used → Forgotten net net' → net' ≡ base
+stacked_back {s} {base} {net} {count} {used} {net'} S F =
+    ext_get_or 0 net' base (F.long ∙ S.long) (λ i h. by_bool (ltb i (first_word (frames_of base)))
     (λ a. F.others i (inl (omega (tests, S.frames-same))) ∙ S.others i (inl (omega tests)))
-    (λ a. by_bool (ltb i (first_word (framesOf base + 3)))
-    (λ b. F.emptied i (omega (tests, S.frames-same)) (omega (tests, S.frames-same)) ∙ sym (S.net-of.empty i (omega tests)))
+    (λ a. by_bool (ltb i (first_word (frames_of base + 3)))
+    (λ b. F.emptied i (omega (tests, S.frames-same)) (omega (tests, S.frames-same)) ∙ sym (S.net_of.empty i (omega tests)))
     (λ b. F.others i (inr (omega (tests, S.frames-same))) ∙ S.others i (inr (omega tests)))))
 
 -- ---- the quantifier as the code reads it
 
 module _ {net : List ℕ} {k op left right mask m x : ℕ} {b : Bool} (I : Is net k op left right mask) (e : packed net k ≡ Binds b m x) where
-  numbers-bind : node_of op left right mask ≡ Binds b m x
-  numbers-bind = sym I.node ∙ e
+  numbers_bind : node_of op left right mask ≡ Binds b m x
+  numbers_bind = sym I.node ∙ e
 
   is-quantifier : 6 ≤ op
   is-quantifier =
       by_bool (ltb op 2)
-      (λ q. let h = sym (node-fixed op left right mask (omega tests)) ∙ numbers-bind in let z : ◌≡◌ {A = ℕ} 0 1 = cc in absurd (omega arith))
+      (λ q. let h = sym (node_fixed op left right mask (omega tests)) ∙ numbers_bind in let z : ◌≡◌ {A = ℕ} 0 1 = cc in absurd (omega arith))
       (λ q. by_bool (eqb op 2)
-      (λ r. let h = sym (node-reads op left right mask (omega tests)) ∙ numbers-bind in let z : ◌≡◌ {A = ℕ} 0 1 = cc in absurd (omega arith))
+      (λ r. let h = sym (node_reads op left right mask (omega tests)) ∙ numbers_bind in let z : ◌≡◌ {A = ℕ} 0 1 = cc in absurd (omega arith))
       (λ r. by_bool (eqb op 3)
-      (λ t. let h = sym (node-flips op left right mask (omega tests)) ∙ numbers-bind in let z : ◌≡◌ {A = ℕ} 0 1 = cc in absurd (omega arith))
+      (λ t. let h = sym (node_flips op left right mask (omega tests)) ∙ numbers_bind in let z : ◌≡◌ {A = ℕ} 0 1 = cc in absurd (omega arith))
       (λ t. by_bool (ltb op 6)
-      (λ u. let h = sym (node-joins op left right mask (omega tests) (omega tests)) ∙ numbers-bind in let z : ◌≡◌ {A = ℕ} 0 1 = cc in absurd (omega arith))
+      (λ u. let h = sym (node_joins op left right mask (omega tests) (omega tests)) ∙ numbers_bind in let z : ◌≡◌ {A = ℕ} 0 1 = cc in absurd (omega arith))
       (λ u. omega tests))))
 
-  pub is-chosen : (6 ≤ op) × (eqb op 6 ≡ b) × (mask ≡ m) × (left ≡ x)
-  is-chosen = let h = sym (node-binds op left right mask is-quantifier) ∙ numbers-bind in (is-quantifier, cc, cc, cc)
+  pub is_chosen : (6 ≤ op) × (eqb op 6 ≡ b) × (mask ≡ m) × (left ≡ x)
+  is_chosen = let h = sym (node_binds op left right mask is-quantifier) ∙ numbers_bind in (is-quantifier, cc, cc, cc)
 
 -- by the truth that decides it
-pub is-chosen-val : {net : List ℕ} {k op left right mask d m x : ℕ} → Is net k op left right mask → packed net k ≡ Binds (val d) m x → 0 < d → d < 3 → (6 ≤ op) × (decides op ≡ d)
+pub is_chosen_val : {net : List ℕ} {k op left right mask d m x : ℕ} → Is net k op left right mask → packed net k ≡ Binds (val d) m x → 0 < d → d < 3 → (6 ≤ op) × (decides op ≡ d)
 unfolding val decides
-is-chosen-val {net} {k} {op} {left} {right} {mask} {d} I e a b =
-    let h = is-chosen I e in (
+is_chosen_val {net} {k} {op} {left} {right} {mask} {d} I e a b =
+    let h = is_chosen I e in (
       h.0,
       rw h.1 (by_bool (eqb d 2) (λ q. rw q (omega tests)) (λ q. rw q (omega tests))),
     )

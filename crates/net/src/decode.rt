@@ -1,13 +1,13 @@
 // A checked sheet decoded into a net, by a reader that is stepped along it.
 ghost use Rattle.std.specs.Prelude.{◌≡◌, ◌+◌, ◌<◌, ltb, length, set};
 ghost use Rattle.form.specs.Form.{form_of};
-ghost use Rattle.sheet.specs.Fields.{sheetOf, frames, kind};
+ghost use Rattle.sheet.specs.Fields.{sheet_of, frames, kind};
 ghost use Rattle.sheet.specs.Frames.{Fit};
 ghost use Rattle.sheet.specs.Rules as Rules;
-ghost use Rattle.net.specs.Decode.{nodeOfKind};
+ghost use Rattle.net.specs.Decode.{node_of_kind};
 ghost use Rattle.net.specs.Layout.{unpack};
 ghost use Rattle.net.specs.Sheet.{Checked, NetOf};
-ghost use Rattle.net.specs.Load.{boundOf, Empty, Loading};
+ghost use Rattle.net.specs.Load.{bound_of, Empty, Loading};
 
 use crate::node::{put, word};
 use crate::rewrite::nest;
@@ -22,7 +22,7 @@ fn index(field: u16) -> usize
 // The variables that a frame of this kind binds.
 fn mask_of(kind: Kind) -> u64
     requires { Fit 64 4096 kind }
-    ensures { result ≡ boundOf kind }
+    ensures { result ≡ bound_of kind }
 {
     match kind {
         Kind::Never => 0,
@@ -39,7 +39,7 @@ fn mask_of(kind: Kind) -> u64
 // The first word of the frame's node.
 fn word_of(kind: Kind) -> u64
     requires { Fit 64 4096 kind }
-    ensures { unpack result (boundOf kind) ≡ nodeOfKind kind }
+    ensures { unpack result (bound_of kind) ≡ node_of_kind kind }
 {
     match kind {
         Kind::Never => 0,
@@ -62,8 +62,8 @@ struct Pass {
 
 // One turn of the pass: the frame that the reader gave becomes its node.
 fn store(sheet: &[u8], net: &mut [u64], pass: Pass, frame: Frame) -> Pass
-    requires { Loading (sheetOf (form_of pass.wide) sheet.now) net.old frame.number × (frame.number < frames (sheetOf (form_of pass.wide) sheet.now)) × (frame.kind ≡ kind (sheetOf (form_of pass.wide) sheet.now) frame.number) }
-    ensures { Loading (sheetOf (form_of pass.wide) sheet.now) net.new (frame.number + 1) × (result.more ≡ ltb (frame.number + 1) (frames (sheetOf (form_of pass.wide) sheet.now))) × (result.wide ≡ pass.wide) }
+    requires { Loading (sheet_of (form_of pass.wide) sheet.now) net.old frame.number × (frame.number < frames (sheet_of (form_of pass.wide) sheet.now)) × (frame.kind ≡ kind (sheet_of (form_of pass.wide) sheet.now) frame.number) }
+    ensures { Loading (sheet_of (form_of pass.wide) sheet.now) net.new (frame.number + 1) × (result.more ≡ ltb (frame.number + 1) (frames (sheet_of (form_of pass.wide) sheet.now))) × (result.wide ≡ pass.wide) }
 {
     let form = form::of(pass.wide);
     let k = frame.number;
@@ -77,8 +77,8 @@ fn store(sheet: &[u8], net: &mut [u64], pass: Pass, frame: Frame) -> Pass
 
 // The pass from frame 0 on: one reader is stepped along the sheet.
 fn load_frames(sheet: &[u8], net: &mut [u64], mut pass: Pass) -> Pass
-    requires { Loading (sheetOf (form_of pass.wide) sheet.now) net.old 0 × (pass.more ≡ ltb 0 (frames (sheetOf (form_of pass.wide) sheet.now))) }
-    ensures { Loading (sheetOf (form_of pass.wide) sheet.now) net.new (frames (sheetOf (form_of pass.wide) sheet.now)) }
+    requires { Loading (sheet_of (form_of pass.wide) sheet.now) net.old 0 × (pass.more ≡ ltb 0 (frames (sheet_of (form_of pass.wide) sheet.now))) }
+    ensures { Loading (sheet_of (form_of pass.wide) sheet.now) net.new (frames (sheet_of (form_of pass.wide) sheet.now)) }
 {
     let mut reader = reader::new(sheet, 0, pass.wide);
     while pass.more {
@@ -100,8 +100,8 @@ fn head(net: &mut [u64], frames: usize, free: u64, gauges: u64)
 
 // The whole sheet, with neighbouring quantifiers joined. Links come later, behind whatever else is rewritten. The net has room for every sheet of the form and three nodes more, and is empty.
 pub fn load(sheet: &[u8], wide: bool, free: u64, gauges: u64, net: &mut [u64])
-    requires { Checked (sheetOf (form_of wide) sheet.now) free × (gauges ≡ Rules.gauges (sheetOf (form_of wide) sheet.now)) × Empty (form_of wide) net.old }
-    ensures { NetOf (sheetOf (form_of wide) sheet.now) net.new }
+    requires { Checked (sheet_of (form_of wide) sheet.now) free × (gauges ≡ Rules.gauges (sheet_of (form_of wide) sheet.now)) × Empty (form_of wide) net.old }
+    ensures { NetOf (sheet_of (form_of wide) sheet.now) net.new }
 {
     let first = Pass { wide, more: true };
     load_frames(sheet, net, first);

@@ -2,8 +2,8 @@
 // read: a link is a node's number and 1, or 0 for none. Nothing is proved of them but that they leave the net as it is, so that whoever follows them
 // looks where he goes.
 ghost use Rattle.std.specs.Prelude.{◌≡◌, ◌<◌, length, get_or};
-ghost use Rattle.net.specs.Layout.{framesOf, first_word, HasNode, Ground};
-ghost use Rattle.net.specs.Link.{lowPart, Linked};
+ghost use Rattle.net.specs.Layout.{frames_of, first_word, HasNode, Ground};
+ghost use Rattle.net.specs.Link.{low_part, Linked};
 
 use crate::node::{NODES, frames, node_at};
 
@@ -59,21 +59,21 @@ pub fn next_user(net: &[u64], k: usize, i: usize) -> usize
 
 fn with_users(word: u64, link: usize) -> u64
     requires { link < 4096 }
-    ensures { lowPart result ≡ lowPart word }
+    ensures { low_part result ≡ low_part word }
 {
     word % USERS + USERS * (link as u64) + word / LEFT * LEFT
 }
 
 fn with_left(word: u64, link: usize) -> u64
     requires { link < 4096 }
-    ensures { lowPart result ≡ lowPart word }
+    ensures { low_part result ≡ low_part word }
 {
     word % LEFT + LEFT * (link as u64) + word / RIGHT * RIGHT
 }
 
 fn with_right(word: u64, link: usize) -> u64
     requires { link < 4096 }
-    ensures { lowPart result ≡ lowPart word }
+    ensures { low_part result ≡ low_part word }
 {
     word % RIGHT + RIGHT * (link as u64)
 }
@@ -87,7 +87,7 @@ fn word_at(net: &[u64], k: usize) -> u64
 
 // The first word of node k with other links.
 fn relink(net: &mut [u64], k: usize, word: u64)
-    requires { Ground net.old × (k < framesOf net.old) × (lowPart word ≡ lowPart (get_or net.old (first_word k) 0)) }
+    requires { Ground net.old × (k < frames_of net.old) × (low_part word ≡ low_part (get_or net.old (first_word k) 0)) }
     ensures { Linked net.old net.new }
 {
     net[NODES + 2 * k] = word;
@@ -95,7 +95,7 @@ fn relink(net: &mut [u64], k: usize, word: u64)
 
 // Node k becomes the last that reads the variable.
 fn link_variable(net: &mut [u64], k: usize, variable: usize)
-    requires { Ground net.old × (k < framesOf net.old) × (variable < 64) }
+    requires { Ground net.old × (k < frames_of net.old) × (variable < 64) }
     ensures { Linked net.old net.new }
 {
     let at = READERS + variable;
@@ -107,7 +107,7 @@ fn link_variable(net: &mut [u64], k: usize, variable: usize)
 
 // Node k becomes the last that names node i, its left side.
 fn link_left(net: &mut [u64], k: usize, i: usize)
-    requires { Ground net.old × (k < framesOf net.old) × (i < k) }
+    requires { Ground net.old × (k < frames_of net.old) × (i < k) }
     ensures { Linked net.old net.new }
 {
     let before = user_of(&net[..], i);
@@ -119,7 +119,7 @@ fn link_left(net: &mut [u64], k: usize, i: usize)
 
 // The same of its right side.
 fn link_right(net: &mut [u64], k: usize, i: usize)
-    requires { Ground net.old × (k < framesOf net.old) × (i < k) }
+    requires { Ground net.old × (k < frames_of net.old) × (i < k) }
     ensures { Linked net.old net.new }
 {
     let before = user_of(&net[..], i);
@@ -131,7 +131,7 @@ fn link_right(net: &mut [u64], k: usize, i: usize)
 
 // The links of node k. A gate that names one node twice names it once here.
 fn link_at(net: &mut [u64], k: usize)
-    requires { Ground net.old × (k < framesOf net.old) }
+    requires { Ground net.old × (k < frames_of net.old) }
     ensures { Linked net.old net.new }
 {
     let node = node_at(&net[..], k);

@@ -7,7 +7,7 @@
 //   68 + 2k    its mask
 ghost use Rattle.std.specs.Prelude.{◌≡◌, ℕ, ◌+◌, ◌*◌, ◌<◌, length, set};
 ghost use Rattle.net.specs.Net.{node_of};
-ghost use Rattle.net.specs.Layout.{netForm, framesOf, freeOf, gaugesOf, first_word, secondWord, HasNode, unpack, changed, Is, decides};
+ghost use Rattle.net.specs.Layout.{net_form, frames_of, free_of, gauges_of, first_word, second_word, HasNode, unpack, changed, Is, decides};
 
 use form::Form;
 
@@ -19,7 +19,7 @@ const NARROW_WORDS: usize = 473;
 
 // The form of the net's sheet: a wide one has room for more nodes.
 pub fn form(net: &[u64]) -> Form
-    ensures { result ≡ netForm net.now }
+    ensures { result ≡ net_form net.now }
 {
     form::of(net.len() > NARROW_WORDS)
 }
@@ -35,21 +35,21 @@ pub struct Node {
 
 pub fn frames(net: &[u64]) -> usize
     requires { 1 < length net.now }
-    ensures { result ≡ framesOf net.now }
+    ensures { result ≡ frames_of net.now }
 {
     net[0] as usize
 }
 
 pub fn free(net: &[u64]) -> u64
     requires { 1 < length net.now }
-    ensures { result ≡ freeOf net.now }
+    ensures { result ≡ free_of net.now }
 {
     net[1]
 }
 
 pub fn gauges(net: &[u64]) -> u64
     requires { 2 < length net.now }
-    ensures { result ≡ gaugesOf net.now }
+    ensures { result ≡ gauges_of net.now }
 {
     net[2]
 }
@@ -98,7 +98,7 @@ pub fn word(op: u8, left: usize, right: usize) -> u64
 // Stores the words of node k.
 pub fn put(net: &mut [u64], k: usize, word: u64, mask: u64)
     requires { HasNode net.old k }
-    ensures { net.new ≡ set (set net.old (first_word k) word) (secondWord k) mask }
+    ensures { net.new ≡ set (set net.old (first_word k) word) (second_word k) mask }
 {
     let at = NODES + 2 * k;
     net[at] = word;

@@ -1,13 +1,13 @@
 // The quantifiers of a question, behind the frames: the first over the last frame, each other one over the one before it. There they are nodes like any other.
 ghost use Rattle.std.specs.Prelude.{◌<◌};
-ghost use Rattle.net.specs.Layout.{Ground, framesOf};
+ghost use Rattle.net.specs.Layout.{Ground, frames_of};
 ghost use Rattle.net.specs.Own.{Chosen, Forgotten};
 
 use crate::node::{frames, put, word};
 
 // Puts the quantifier that the truth d decides (2 an EXISTS, 1 a FORALL) over the mask at place i: 0, 1 or 2.
 pub fn choose(net: &mut [u64], i: usize, d: u8, mask: u64)
-    requires { Ground net.old × (0 < framesOf net.old) × (i < 3) × (0 < d) × (d < 3) }
+    requires { Ground net.old × (0 < frames_of net.old) × (i < 3) × (0 < d) × (d < 3) }
     ensures { Chosen net.old i d mask net.new }
 {
     let at = frames(&net[..]) + i;

@@ -1,6 +1,6 @@
 // The first rewrite: a quantifier directly over one of its kind binds the variables of both.
 ghost use Rattle.std.specs.Prelude.{◌<◌};
-ghost use Rattle.net.specs.Layout.{framesOf};
+ghost use Rattle.net.specs.Layout.{frames_of};
 ghost use Rattle.sheet.specs.Fields.{Sheet};
 ghost use Rattle.net.specs.Sheet.{NetOf};
 
@@ -8,7 +8,7 @@ use crate::node::{changed, frames, node_at, put, word};
 
 // Node k, if it is such a quantifier and not changed.
 fn nest_at(net: &mut [u64], k: usize)
-    requires { ((s : Sheet) × NetOf s net.old) × (k < framesOf net.old) }
+    requires { ((s : Sheet) × NetOf s net.old) × (k < frames_of net.old) }
     ensures { (s : Sheet) → NetOf s net.old → NetOf s net.new }
 {
     let outer = node_at(&net[..], k);

@@ -17,9 +17,9 @@ module _ (m n : ℕ) (o : ℕ → ℕ) (A : Apart (suc m) (suc n) o) where
   unfolding other
   other-hit j e = rw (eq-eqb (o j) n e)
 
-  other-miss : (j : ℕ) → (o j ≡ n → ⊥) → other m n o j ≡ o j
+  other_miss : (j : ℕ) → (o j ≡ n → ⊥) → other m n o j ≡ o j
   unfolding other
-  other-miss j e = rw (ne_eqb (o j) n e)
+  other_miss j e = rw (ne_eqb (o j) n e)
 
   other-apart : Apart m n (other m n o)
   other-apart = record {
@@ -30,16 +30,16 @@ module _ (m n : ℕ) (o : ℕ → ℕ) (A : Apart (suc m) (suc n) o) where
         by_bool (eqb (o m) n)
         (λ s. let q : o m ≡ n = omega tests in let c = A.apart j m (omega arith) (omega arith) (e ∙ sym q) in absurd (omega (arith, c, h)))
         (λ s. omega (tests, d, b)))
-        (λ t. let d = other-miss j (λ e. omega (tests, e)) in let b = A.below j (omega arith) in omega (tests, d, b));
+        (λ t. let d = other_miss j (λ e. omega (tests, e)) in let b = A.below j (omega arith) in omega (tests, d, b));
     apart = λ i j h g e. by_bool (eqb (o i) n)
         (λ s. let p : o i ≡ n = omega tests in
         by_bool (eqb (o j) n)
         (λ t. let q : o j ≡ n = omega tests in A.apart i j (omega arith) (omega arith) (p ∙ sym q))
-        (λ t. let c = A.apart m j (omega arith) (omega arith) (sym (other-hit i p) ∙ e ∙ other-miss j (λ q. omega (tests, q))) in absurd (omega (arith, c, g))))
+        (λ t. let c = A.apart m j (omega arith) (omega arith) (sym (other-hit i p) ∙ e ∙ other_miss j (λ q. omega (tests, q))) in absurd (omega (arith, c, g))))
         (λ s. by_bool (eqb (o j) n)
         (λ t. let q : o j ≡ n = omega tests in
-        let c = A.apart i m (omega arith) (omega arith) (sym (other-miss i (λ p. omega (tests, p))) ∙ e ∙ other-hit j q) in absurd (omega (arith, c, h)))
-        (λ t. A.apart i j (omega arith) (omega arith) (sym (other-miss i (λ p. omega (tests, p))) ∙ e ∙ other-miss j (λ q. omega (tests, q)))));
+        let c = A.apart i m (omega arith) (omega arith) (sym (other_miss i (λ p. omega (tests, p))) ∙ e ∙ other-hit j q) in absurd (omega (arith, c, h)))
+        (λ t. A.apart i j (omega arith) (omega arith) (sym (other_miss i (λ p. omega (tests, p))) ∙ e ∙ other_miss j (λ q. omega (tests, q)))));
   }
 
 pub apart-few : (m n : ℕ) (o : ℕ → ℕ) → Apart m n o → m ≤ n

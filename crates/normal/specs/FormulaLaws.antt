@@ -9,41 +9,41 @@ use borrow.Author.Tests.{eqb-true, eq-eqb}
 use Rattle.words.specs.Logic.{by_bool, clash, tests, or_cases, or_left, or_right, and_both, and_intro}
 use Rattle.formula.specs.Assignment.{within}
 use Rattle.formula.specs.Formula.{Formula, never, input, neg, gate, quant, free}
-use Rattle.sheet.specs.Frames.{build, formulaOf}
+use Rattle.sheet.specs.Frames.{build, formula_of}
 use Rattle.sheet.specs.Rules as Rules
 use Rattle.sheet.specs.declared.Kind.{Kind}
 use Rattle.sheet.specs.declared.Kind.TheVariants.{Never, Not}
-use Rattle.normal.specs.Normal.{Placed, index, put, reading, gateOf, quantOf, place}
+use Rattle.normal.specs.Normal.{Placed, index, put, reading, gate_of, quant_of, place}
 use Rattle.normal.specs.Words.{kind_at}
-use Rattle.normal.specs.PlaceLaws.{Frames, Formed, nothing, reads, denies, joins, binds, formed, Written, formulaAt, formula-at, index-le, index-hit, put-new, length-snoc, joined, Every, Below, none_written, place-places, place-every, build-gate, build-quant}
+use Rattle.normal.specs.PlaceLaws.{Frames, Formed, nothing, reads, denies, joins, binds, formed, Written, formula_at, formula-at, index-le, index-hit, put-new, length_snoc, joined, Every, Below, none_written, place-places, place-every, build-gate, build-quant}
 
 -- ---- frames in order
 
 module _ {γ : ℕ → Bool} {w : ℕ} {κ : ℕ → Kind} {n : ℕ} (S : Frames γ w κ n) where
   -- what every frame's formula has, its parts have
-  module _ (P : Formula → Type 0) (h : (k : ℕ) → k < n → P (formulaOf κ k)) where
-    every-as : (k : ℕ) → Formed γ w κ k → P (formulaOf κ k) → ((a : ℕ) → a < k → Every P (formulaOf κ a)) → Every P (formulaOf κ k)
-    every-as k (nothing e q) p s = subst (Every P) (sym q) (subst P q p)
-    every-as k (reads x i e q) p s = subst (Every P) (sym q) (subst P q p)
-    every-as k (denies a i e q) p s = subst (Every P) (sym q) (subst P q p, s a i)
-    every-as k (joins d a b i j e q) p s = subst (Every P) (sym q) (subst P q p, s a i, s b j)
-    every-as k (binds d b c a i l m e q) p s = subst (Every P) (sym q) (subst P q p, s a i)
+  module _ (P : Formula → Type 0) (h : (k : ℕ) → k < n → P (formula_of κ k)) where
+    every_as : (k : ℕ) → Formed γ w κ k → P (formula_of κ k) → ((a : ℕ) → a < k → Every P (formula_of κ a)) → Every P (formula_of κ k)
+    every_as k (nothing e q) p s = subst (Every P) (sym q) (subst P q p)
+    every_as k (reads x i e q) p s = subst (Every P) (sym q) (subst P q p)
+    every_as k (denies a i e q) p s = subst (Every P) (sym q) (subst P q p, s a i)
+    every_as k (joins d a b i j e q) p s = subst (Every P) (sym q) (subst P q p, s a i, s b j)
+    every_as k (binds d b c a i l m e q) p s = subst (Every P) (sym q) (subst P q p, s a i)
 
-    every-below : (m k : ℕ) → k < m → k < n → Every P (formulaOf κ k)
+    every-below : (m k : ℕ) → k < m → k < n → Every P (formula_of κ k)
     every-below zero k i j = absurd (omega arith)
-    every-below (suc m) k i j = every-as k (formed S k j) (h k j) (λ a l. every-below m a (omega arith) (omega arith))
+    every-below (suc m) k i j = every_as k (formed S k j) (h k j) (λ a l. every-below m a (omega arith) (omega arith))
 
-    pub every-part : (k : ℕ) → k < n → Every P (formulaOf κ k)
+    pub every-part : (k : ℕ) → k < n → Every P (formula_of κ k)
     every-part k i = every-below (suc k) k (omega arith) i
 
-  below_as : (k : ℕ) → Formed γ w κ k → Below w (formulaOf κ k)
+  below_as : (k : ℕ) → Formed γ w κ k → Below w (formula_of κ k)
   below_as k (nothing e q) = subst (Below w) (sym q) tt
   below_as k (reads x i e q) = subst (Below w) (sym q) i
   below_as k (denies a i e q) = subst (Below w) (sym q) tt
   below_as k (joins d a b i j e q) = subst (Below w) (sym q) tt
   below_as k (binds d b c a i l m e q) = subst (Below w) (sym q) (l, m)
 
-  pub all-below : (k : ℕ) → k < n → Every (Below w) (formulaOf κ k)
+  pub all-below : (k : ℕ) → k < n → Every (Below w) (formula_of κ k)
   all-below k h = every-part (Below w) (λ j i. below_as j (formed S j i)) k h
 
 -- ---- the variables that a formula binds at its root
@@ -60,18 +60,18 @@ unfolding Rules.binds
 binds-reading true x v = refl
 binds-reading false x v = refl
 
-binds-gate : (d : Bool) (a b v : ℕ) → Rules.binds (gateOf d a b) v ≡ false
+binds-gate : (d : Bool) (a b v : ℕ) → Rules.binds (gate_of d a b) v ≡ false
 unfolding Rules.binds
 binds-gate true a b v = refl
 binds-gate false a b v = refl
 
-binds-quant : (d : Bool) (b c a v : ℕ) → Rules.binds (quantOf d b c a) v ≡ within b c v
+binds-quant : (d : Bool) (b c a v : ℕ) → Rules.binds (quant_of d b c a) v ≡ within b c v
 unfolding Rules.binds
 binds-quant true b c a v = refl
 binds-quant false b c a v = refl
 
 -- a frame binds what its formula does
-pub frame-binds : {γ : ℕ → Bool} {w : ℕ} {κ : ℕ → Kind} (k v : ℕ) → Formed γ w κ k → Rules.binds (κ k) v ≡ binder (formulaOf κ k) v
+pub frame-binds : {γ : ℕ → Bool} {w : ℕ} {κ : ℕ → Kind} (k v : ℕ) → Formed γ w κ k → Rules.binds (κ k) v ≡ binder (formula_of κ k) v
 unfolding binder Rules.binds
 frame-binds k v (nothing e q) = ap (λ (d : Kind). Rules.binds d v) e ∙ sym (ap (λ (f : Formula). binder f v) q)
 frame-binds {γ} k v (reads x i e q) = ap (λ (d : Kind). Rules.binds d v) e ∙ binds-reading (γ x) x v ∙ sym (ap (λ (f : Formula). binder f v) q)
@@ -116,34 +116,34 @@ place-reads γ δ never l h = refl
 place-reads γ δ (input x) l h = ap (λ (g : Bool). put (reading g x) l) (h x (eq-eqb x x refl))
 place-reads γ δ (neg f) l h = ap (λ (p : Placed). put (Not p.number) p.frames) (place-reads γ δ f l h)
 place-reads γ δ (gate d f g) l h =
-    ap (λ (p : Placed). let q = place γ g p.frames in put (gateOf d p.number q.number) q.frames)
+    ap (λ (p : Placed). let q = place γ g p.frames in put (gate_of d p.number q.number) q.frames)
     (place-reads γ δ f l (λ x e. h x (or_left (occurs f x) (occurs g x) e)))
-    ∙ ap (λ (q : Placed). put (gateOf d (place δ f l).number q.number) q.frames)
+    ∙ ap (λ (q : Placed). put (gate_of d (place δ f l).number q.number) q.frames)
     (place-reads γ δ g (place δ f l).frames (λ x e. h x (or_right (occurs f x) (occurs g x) e)))
-place-reads γ δ (quant d b c f) l h = ap (λ (p : Placed). put (quantOf d b c p.number) p.frames) (place-reads γ δ f l h)
+place-reads γ δ (quant d b c f) l h = ap (λ (p : Placed). put (quant_of d b c p.number) p.frames) (place-reads γ δ f l h)
 
 -- each is read by a frame
 module _ {γ : ℕ → Bool} {w : ℕ} {κ : ℕ → Kind} {n : ℕ} (S : Frames γ w κ n) (x : ℕ) where
   abbrev Reader : Type 0
   Reader = (j : ℕ) × (j < n) × (κ j ≡ reading (γ x) x)
 
-  reader-as : (k : ℕ) → k < n → Formed γ w κ k → ((a : ℕ) → a < k → occurs (formulaOf κ a) x ≡ true → Reader) → occurs (formulaOf κ k) x ≡ true → Reader
+  reader_as : (k : ℕ) → k < n → Formed γ w κ k → ((a : ℕ) → a < k → occurs (formula_of κ a) x ≡ true → Reader) → occurs (formula_of κ k) x ≡ true → Reader
   unfolding occurs
-  reader-as k h (nothing e q) s o = clash false (ap (λ (f : Formula). occurs f x) (sym q) ∙ o) refl
-  reader-as k h (reads y i e q) s o =
+  reader_as k h (nothing e q) s o = clash false (ap (λ (f : Formula). occurs f x) (sym q) ∙ o) refl
+  reader_as k h (reads y i e q) s o =
       let t : x ≡ y = eqb-true x y (ap (λ (f : Formula). occurs f x) (sym q) ∙ o) in
       (k, h, e ∙ ap (λ (z : ℕ). reading (γ z) z) (sym t))
-  reader-as k h (denies a i e q) s o = s a i (ap (λ (f : Formula). occurs f x) (sym q) ∙ o)
-  reader-as k h (joins d a b i j e q) s o =
-      or_cases (occurs (formulaOf κ a) x) (occurs (formulaOf κ b) x) (ap (λ (f : Formula). occurs f x) (sym q) ∙ o) (λ t. s a i t) (λ t. s b j t)
-  reader-as k h (binds d b c a i l m e q) s o = s a i (ap (λ (f : Formula). occurs f x) (sym q) ∙ o)
+  reader_as k h (denies a i e q) s o = s a i (ap (λ (f : Formula). occurs f x) (sym q) ∙ o)
+  reader_as k h (joins d a b i j e q) s o =
+      or_cases (occurs (formula_of κ a) x) (occurs (formula_of κ b) x) (ap (λ (f : Formula). occurs f x) (sym q) ∙ o) (λ t. s a i t) (λ t. s b j t)
+  reader_as k h (binds d b c a i l m e q) s o = s a i (ap (λ (f : Formula). occurs f x) (sym q) ∙ o)
 
-  reader-below : (m k : ℕ) → k < m → k < n → occurs (formulaOf κ k) x ≡ true → Reader
-  reader-below zero k i h o = absurd (omega arith)
-  reader-below (suc m) k i h o = reader-as k h (formed S k h) (λ a j p. reader-below m a (omega arith) (omega arith) p) o
+  reader_below : (m k : ℕ) → k < m → k < n → occurs (formula_of κ k) x ≡ true → Reader
+  reader_below zero k i h o = absurd (omega arith)
+  reader_below (suc m) k i h o = reader_as k h (formed S k h) (λ a j p. reader_below m a (omega arith) (omega arith) p) o
 
-  pub occurs-read : (k : ℕ) → k < n → occurs (formulaOf κ k) x ≡ true → Reader
-  occurs-read k h o = reader-below (suc k) k (omega arith) h o
+  pub occurs_read : (k : ℕ) → k < n → occurs (formula_of κ k) x ≡ true → Reader
+  occurs_read k h o = reader_below (suc k) k (omega arith) h o
 
 -- ---- a formula is larger than its parts, so its frame is the last
 
@@ -154,26 +154,26 @@ size (neg f) = suc (size f)
 size (gate d f g) = suc (size f + size g)
 size (quant d b c f) = suc (size f)
 
-every-smaller : (m : ℕ) (f : Formula) → size f ≤ m → Every (λ g. size g ≤ m) f
+every_smaller : (m : ℕ) (f : Formula) → size f ≤ m → Every (λ g. size g ≤ m) f
 unfolding size
-every-smaller m never h = h
-every-smaller m (input x) h = h
-every-smaller m (neg f) h = (h, every-smaller m f (omega arith))
-every-smaller m (gate d f g) h = (h, every-smaller m f (omega arith), every-smaller m g (omega arith))
-every-smaller m (quant d b c f) h = (h, every-smaller m f (omega arith))
+every_smaller m never h = h
+every_smaller m (input x) h = h
+every_smaller m (neg f) h = (h, every_smaller m f (omega arith))
+every_smaller m (gate d f g) h = (h, every_smaller m f (omega arith), every_smaller m g (omega arith))
+every_smaller m (quant d b c f) h = (h, every_smaller m f (omega arith))
 
 module _ (γ : ℕ → Bool) (w : ℕ) where
   -- a frame behind those of smaller formulas
-  put_last : {l : List Kind} → Written γ w l → (d : Kind) (m : ℕ) → ((k : ℕ) → k < length l → size (formulaAt l k) ≤ m) → m < size (build (formulaAt l) d)
+  put_last : {l : List Kind} → Written γ w l → (d : Kind) (m : ℕ) → ((k : ℕ) → k < length l → size (formula_at l k) ≤ m) → m < size (build (formula_at l) d)
       → length (put d l).frames ≡ suc (put d l).number
   put_last {l} W d m s h = by_bool (ltb (index d l) (length l))
       (λ t. let i : index d l < length l = omega tests in
-      let e = ap size (formula-at W (index d l) i ∙ ap (build (formulaAt l)) (index-hit d l i)) in
+      let e = ap size (formula-at W (index d l) i ∙ ap (build (formula_at l)) (index-hit d l i)) in
       let b = s (index d l) i in
       absurd (omega (arith, e, b, h)))
       (λ t. let n : index d l ≡ length l = omega (tests, index-le d l) in
       let q = put-new W d n in
-      ap (λ (p : Placed). length p.frames) q ∙ length-snoc W d ∙ sym (ap (λ (p : Placed). suc p.number) q))
+      ap (λ (p : Placed). length p.frames) q ∙ length_snoc W d ∙ sym (ap (λ (p : Placed). suc p.number) q))
 
   pub root-last : (f : Formula) → Every (Below w) f → length (place γ f []).frames ≡ suc (place γ f []).number
   unfolding place put index size build
@@ -181,7 +181,7 @@ module _ (γ : ℕ → Bool) (w : ℕ) where
   root-last (input x) h = refl
   root-last (neg f) h =
       let P = place-places γ w f [] h.1 (none_written γ w) in
-      let s = place-every γ w (λ g. size g ≤ size f) f [] h.1 (none_written γ w) (every-smaller (size f) f (omega arith)) (λ k i. absurd (omega arith)) in
+      let s = place-every γ w (λ g. size g ≤ size f) f [] h.1 (none_written γ w) (every_smaller (size f) f (omega arith)) (λ k i. absurd (omega arith)) in
       put_last P.written _ (size f) s (let e = ap size P.means in omega (arith, e))
   root-last (gate d f g) h =
       let m = size f + size g in
@@ -189,11 +189,11 @@ module _ (γ : ℕ → Bool) (w : ℕ) where
       let q = place γ g p.frames in
       let P = place-places γ w f [] h.1 (none_written γ w) in
       let Q = place-places γ w g p.frames h.2 P.written in
-      let s = place-every γ w (λ g. size g ≤ m) f [] h.1 (none_written γ w) (every-smaller m f (omega arith)) (λ k i. absurd (omega arith)) in
-      let t = place-every γ w (λ g. size g ≤ m) g p.frames h.2 P.written (every-smaller m g (omega arith)) s in
+      let s = place-every γ w (λ g. size g ≤ m) f [] h.1 (none_written γ w) (every_smaller m f (omega arith)) (λ k i. absurd (omega arith)) in
+      let t = place-every γ w (λ g. size g ≤ m) g p.frames h.2 P.written (every_smaller m g (omega arith)) s in
       put_last Q.written _ m t (let e = ap size (joined P d Q) in omega (arith, e))
   root-last (quant d b c f) h =
       let P = place-places γ w f [] h.1 (none_written γ w) in
-      let s = place-every γ w (λ g. size g ≤ size f) f [] h.1 (none_written γ w) (every-smaller (size f) f (omega arith)) (λ k i. absurd (omega arith)) in
+      let s = place-every γ w (λ g. size g ≤ size f) f [] h.1 (none_written γ w) (every_smaller (size f) f (omega arith)) (λ k i. absurd (omega arith)) in
       put_last P.written _ (size f) s
-      (let e = ap size (build-quant (formulaAt (place γ f []).frames) d b c (place γ f []).number ∙ ap (quant d b c) P.means) in omega (arith, e))
+      (let e = ap size (build-quant (formula_at (place γ f []).frames) d b c (place γ f []).number ∙ ap (quant d b c) P.means) in omega (arith, e))

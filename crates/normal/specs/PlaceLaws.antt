@@ -8,16 +8,16 @@ use Rattle.std.proofs.Math.Seq.{get_or-append_seam}
 use borrow.Author.Tests.{lt-ltb, le-ltb}
 use Rattle.words.specs.Logic.{by_bool, clash, tests}
 use Rattle.formula.specs.Formula.{Formula, never, input, neg, gate, quant}
-use Rattle.sheet.specs.Frames.{build, tree, formulaOf, Fit, OrderedBelow, build-same, formula-below}
+use Rattle.sheet.specs.Frames.{build, tree, formula_of, Fit, OrderedBelow, build-same, formula-below}
 use Rattle.sheet.specs.declared.Kind.{Kind}
 use Rattle.sheet.specs.declared.Kind.TheVariants.{Never, Input, Not, And, Or, Exists, Forall, Gauge}
-use Rattle.normal.specs.Normal.{fields_of, sameFields, index, Placed, put, reading, gateOf, quantOf, place}
+use Rattle.normal.specs.Normal.{fields_of, same_fields, index, Placed, put, reading, gate_of, quant_of, place}
 use Rattle.normal.specs.Words.{kind_at}
 use Rattle.normal.specs.BytesLaws.{fields-same, same_kind}
 
 -- the formula of frame k of a list
-abbrev pub formulaAt : List Kind → ℕ → Formula
-formulaAt l k = formulaOf (kind_at l) k
+abbrev pub formula_at : List Kind → ℕ → Formula
+formula_at l k = formula_of (kind_at l) k
 
 -- ---- what a frame says
 
@@ -26,39 +26,39 @@ pub data Says (γ : ℕ → Bool) (w k : ℕ) : Kind → Type 0 where
   nothing : Says γ w k Never
   reads : (x : ℕ) → x < w → Says γ w k (reading (γ x) x)
   denies : (a : ℕ) → a < k → Says γ w k (Not a)
-  joins : (d : Bool) (a b : ℕ) → a < k → b < k → Says γ w k (gateOf d a b)
-  binds : (d : Bool) (b c a : ℕ) → a < k → 1 ≤ c → b + c ≤ w → Says γ w k (quantOf d b c a)
+  joins : (d : Bool) (a b : ℕ) → a < k → b < k → Says γ w k (gate_of d a b)
+  binds : (d : Bool) (b c a : ℕ) → a < k → 1 ≤ c → b + c ≤ w → Says γ w k (quant_of d b c a)
 
 fit-reading : (w k : ℕ) (g : Bool) (x : ℕ) → x < w → Fit w k (reading g x)
 fit-reading w k true x h = h
 fit-reading w k false x h = h
 
-fit-gate : (w k : ℕ) (d : Bool) (a b : ℕ) → a < k → b < k → Fit w k (gateOf d a b)
+fit-gate : (w k : ℕ) (d : Bool) (a b : ℕ) → a < k → b < k → Fit w k (gate_of d a b)
 fit-gate w k true a b g h = (g, h)
 fit-gate w k false a b g h = (g, h)
 
-fit-quant : (w k : ℕ) (d : Bool) (b c a : ℕ) → a < k → b + c ≤ w → Fit w k (quantOf d b c a)
+fit-quant : (w k : ℕ) (d : Bool) (b c a : ℕ) → a < k → b + c ≤ w → Fit w k (quant_of d b c a)
 fit-quant w k true b c a g h = (g, h)
 fit-quant w k false b c a g h = (g, h)
 
-pub says-fit : {γ : ℕ → Bool} {w k : ℕ} {d : Kind} → Says γ w k d → Fit w k d
-says-fit nothing = tt
-says-fit {γ} {w} {k} (reads x h) = fit-reading w k (γ x) x h
-says-fit (denies a h) = h
-says-fit {γ} {w} {k} (joins d a b g h) = fit-gate w k d a b g h
-says-fit {γ} {w} {k} (binds d b c a h m n) = fit-quant w k d b c a h n
+pub says_fit : {γ : ℕ → Bool} {w k : ℕ} {d : Kind} → Says γ w k d → Fit w k d
+says_fit nothing = tt
+says_fit {γ} {w} {k} (reads x h) = fit-reading w k (γ x) x h
+says_fit (denies a h) = h
+says_fit {γ} {w} {k} (joins d a b g h) = fit-gate w k d a b g h
+says_fit {γ} {w} {k} (binds d b c a h m n) = fit-quant w k d b c a h n
 
 pub build-reading : (h : ℕ → Formula) (g : Bool) (x : ℕ) → build h (reading g x) ≡ input x
 unfolding build
 build-reading h true x = refl
 build-reading h false x = refl
 
-pub build-gate : (h : ℕ → Formula) (d : Bool) (a b : ℕ) → build h (gateOf d a b) ≡ gate d (h a) (h b)
+pub build-gate : (h : ℕ → Formula) (d : Bool) (a b : ℕ) → build h (gate_of d a b) ≡ gate d (h a) (h b)
 unfolding build
 build-gate h true a b = refl
 build-gate h false a b = refl
 
-pub build-quant : (h : ℕ → Formula) (d : Bool) (b c a : ℕ) → build h (quantOf d b c a) ≡ quant d b c (h a)
+pub build-quant : (h : ℕ → Formula) (d : Bool) (b c a : ℕ) → build h (quant_of d b c a) ≡ quant d b c (h a)
 unfolding build
 build-quant h true b c a = refl
 build-quant h false b c a = refl
@@ -67,11 +67,11 @@ build-quant h false b c a = refl
 
 -- what frame k of the frames κ says, and the formula that it has by that
 pub data Formed (γ : ℕ → Bool) (w : ℕ) (κ : ℕ → Kind) (k : ℕ) : Type 0 where
-  nothing : κ k ≡ Never → formulaOf κ k ≡ never → Formed γ w κ k
-  reads : (x : ℕ) → x < w → κ k ≡ reading (γ x) x → formulaOf κ k ≡ input x → Formed γ w κ k
-  denies : (a : ℕ) → a < k → κ k ≡ Not a → formulaOf κ k ≡ neg (formulaOf κ a) → Formed γ w κ k
-  joins : (d : Bool) (a b : ℕ) → a < k → b < k → κ k ≡ gateOf d a b → formulaOf κ k ≡ gate d (formulaOf κ a) (formulaOf κ b) → Formed γ w κ k
-  binds : (d : Bool) (b c a : ℕ) → a < k → 1 ≤ c → b + c ≤ w → κ k ≡ quantOf d b c a → formulaOf κ k ≡ quant d b c (formulaOf κ a) → Formed γ w κ k
+  nothing : κ k ≡ Never → formula_of κ k ≡ never → Formed γ w κ k
+  reads : (x : ℕ) → x < w → κ k ≡ reading (γ x) x → formula_of κ k ≡ input x → Formed γ w κ k
+  denies : (a : ℕ) → a < k → κ k ≡ Not a → formula_of κ k ≡ neg (formula_of κ a) → Formed γ w κ k
+  joins : (d : Bool) (a b : ℕ) → a < k → b < k → κ k ≡ gate_of d a b → formula_of κ k ≡ gate d (formula_of κ a) (formula_of κ b) → Formed γ w κ k
+  binds : (d : Bool) (b c a : ℕ) → a < k → 1 ≤ c → b + c ≤ w → κ k ≡ quant_of d b c a → formula_of κ k ≡ quant d b c (formula_of κ a) → Formed γ w κ k
 
 -- the frames below n say something of earlier ones
 abbrev pub Frames : (ℕ → Bool) → ℕ → (ℕ → Kind) → ℕ → Type 0
@@ -79,21 +79,21 @@ Frames γ w κ n = (k : ℕ) → k < n → Says γ w k (κ k)
 
 module _ {γ : ℕ → Bool} {w : ℕ} {κ : ℕ → Kind} {n : ℕ} (S : Frames γ w κ n) where
   pub frames-ordered : OrderedBelow n w κ
-  frames-ordered k h = says-fit (S k h)
+  frames-ordered k h = says_fit (S k h)
 
-  pub formula-by : (k : ℕ) → k < n → formulaOf κ k ≡ build (formulaOf κ) (κ k)
+  pub formula-by : (k : ℕ) → k < n → formula_of κ k ≡ build (formula_of κ) (κ k)
   formula-by k h = formula-below w n κ frames-ordered k h
 
-formed-as : (γ : ℕ → Bool) (w : ℕ) (κ : ℕ → Kind) (k : ℕ) {d : Kind} → formulaOf κ k ≡ build (formulaOf κ) d → κ k ≡ d → Says γ w k d → Formed γ w κ k
+formed_as : (γ : ℕ → Bool) (w : ℕ) (κ : ℕ → Kind) (k : ℕ) {d : Kind} → formula_of κ k ≡ build (formula_of κ) d → κ k ≡ d → Says γ w k d → Formed γ w κ k
 unfolding build
-formed-as γ w κ k f e nothing = nothing e f
-formed-as γ w κ k f e (reads x h) = reads x h e (f ∙ build-reading (formulaOf κ) (γ x) x)
-formed-as γ w κ k f e (denies a h) = denies a h e f
-formed-as γ w κ k f e (joins d a b g h) = joins d a b g h e (f ∙ build-gate (formulaOf κ) d a b)
-formed-as γ w κ k f e (binds d b c a h m n) = binds d b c a h m n e (f ∙ build-quant (formulaOf κ) d b c a)
+formed_as γ w κ k f e nothing = nothing e f
+formed_as γ w κ k f e (reads x h) = reads x h e (f ∙ build-reading (formula_of κ) (γ x) x)
+formed_as γ w κ k f e (denies a h) = denies a h e f
+formed_as γ w κ k f e (joins d a b g h) = joins d a b g h e (f ∙ build-gate (formula_of κ) d a b)
+formed_as γ w κ k f e (binds d b c a h m n) = binds d b c a h m n e (f ∙ build-quant (formula_of κ) d b c a)
 
 pub formed : {γ : ℕ → Bool} {w : ℕ} {κ : ℕ → Kind} {n : ℕ} → Frames γ w κ n → (k : ℕ) → k < n → Formed γ w κ k
-formed {γ} {w} {κ} S k h = formed-as γ w κ k (formula-by S k h) refl (S k h)
+formed {γ} {w} {κ} S k h = formed_as γ w κ k (formula-by S k h) refl (S k h)
 
 -- ---- lists of frames
 
@@ -114,14 +114,14 @@ tree-same w m κ δ o e (suc n) k h =
     ∙ build-same w (tree n δ) (tree n κ) k (κ k) (o k h) (λ a i. tree-same w m κ δ o e n a (omega arith))
 
 module _ {γ : ℕ → Bool} {w : ℕ} {l : List Kind} (W : Written γ w l) where
-  pub formula-at : (k : ℕ) → k < length l → formulaAt l k ≡ build (formulaAt l) (kind_at l k)
+  pub formula-at : (k : ℕ) → k < length l → formula_at l k ≡ build (formula_at l) (kind_at l k)
   formula-at k h = formula-by W.says k h
 
   pub kind-more : (m : List Kind) (k : ℕ) → k < length l → kind_at (l ++ m) k ≡ kind_at l k
   kind-more m k h = get_or-append l m Never k h
 
-  pub formula-more : (m : List Kind) (k : ℕ) → k < length l → formulaAt (l ++ m) k ≡ formulaAt l k
-  unfolding formulaOf
+  pub formula-more : (m : List Kind) (k : ℕ) → k < length l → formula_at (l ++ m) k ≡ formula_at l k
+  unfolding formula_of
   formula-more m k h = tree-same w (length l) (kind_at l) (kind_at (l ++ m)) (frames-ordered W.says) (λ j i. kind-more m j i) (suc k) k h
 
 -- ---- the number of a frame
@@ -129,14 +129,14 @@ module _ {γ : ℕ → Bool} {w : ℕ} {l : List Kind} (W : Written γ w l) wher
 pub index-le : (d : Kind) (l : List Kind) → index d l ≤ length l
 unfolding index
 index-le d [] = omega arith
-index-le d (e ∷ l) = by_bool (sameFields (fields_of d) (fields_of e))
+index-le d (e ∷ l) = by_bool (same_fields (fields_of d) (fields_of e))
     (λ t. rw t (omega arith))
     (λ t. rw t (let h = index-le d l in omega (arith, h)))
 
 pub index-hit : (d : Kind) (l : List Kind) → index d l < length l → kind_at l (index d l) ≡ d
 unfolding index
 index-hit d [] h = absurd (omega arith)
-index-hit d (e ∷ l) h = by_bool (sameFields (fields_of d) (fields_of e))
+index-hit d (e ∷ l) h = by_bool (same_fields (fields_of d) (fields_of e))
     (λ t. rw t (sym (same_kind d e t)))
     (λ t. rw t (index-hit d l (let g = (rw t at h) in omega (arith, g))))
 
@@ -144,9 +144,9 @@ pub index-first : (d : Kind) (l : List Kind) (k : ℕ) → k < length l → kind
 unfolding index
 index-first d [] k h e = absurd (omega arith)
 index-first d (c ∷ l) zero h e =
-    let t : sameFields (fields_of d) (fields_of c) ≡ true = ap (λ (x : Kind). sameFields (fields_of d) (fields_of x)) e ∙ fields-same (fields_of d) in
+    let t : same_fields (fields_of d) (fields_of c) ≡ true = ap (λ (x : Kind). same_fields (fields_of d) (fields_of x)) e ∙ fields-same (fields_of d) in
     rw t (omega arith)
-index-first d (c ∷ l) (suc k) h e = by_bool (sameFields (fields_of d) (fields_of c))
+index-first d (c ∷ l) (suc k) h e = by_bool (same_fields (fields_of d) (fields_of c))
     (λ t. rw t (omega arith))
     (λ t. rw t (let g = index-first d l k (omega arith) e in omega (arith, g)))
 
@@ -166,12 +166,12 @@ pub record Places (γ : ℕ → Bool) (w : ℕ) (f : Formula) (l : List Kind) (p
   pub extends : p.frames ≡ l ++ more
   pub written : Written γ w p.frames
   pub inside : p.number < length p.frames
-  pub means : formulaAt p.frames p.number ≡ f
+  pub means : formula_at p.frames p.number ≡ f
 
 module _ {γ : ℕ → Bool} {w : ℕ} {l : List Kind} (W : Written γ w l) where
   -- one frame more
-  says-snoc : (d : Kind) → Says γ w (length l) d → (k : ℕ) → k < suc (length l) → Says γ w k (kind_at (l ++ (d ∷ [])) k)
-  says-snoc d D k h = by_bool (ltb k (length l))
+  says_snoc : (d : Kind) → Says γ w (length l) d → (k : ℕ) → k < suc (length l) → Says γ w k (kind_at (l ++ (d ∷ [])) k)
+  says_snoc d D k h = by_bool (ltb k (length l))
       (λ t. subst (Says γ w k) (sym (kind-more W (d ∷ []) k (omega tests))) (W.says k (omega tests)))
       (λ t. let q : length l ≡ k = omega tests in
       subst (λ (j : ℕ). Says γ w j (kind_at (l ++ (d ∷ [])) j)) q (subst (Says γ w (length l)) (sym (get_or-append_seam l d [] Never)) D))
@@ -189,13 +189,13 @@ module _ {γ : ℕ → Bool} {w : ℕ} {l : List Kind} (W : Written γ w l) wher
       at-end : (k : ℕ) → k ≡ length l → kind_at (l ++ (d ∷ [])) k ≡ d
       at-end k q = ap (kind_at (l ++ (d ∷ []))) q ∙ get_or-append_seam l d [] Never
 
-  pub length-snoc : (d : Kind) → length (l ++ (d ∷ [])) ≡ suc (length l)
-  length-snoc d = length-append l (d ∷ []) ∙ omega arith
+  pub length_snoc : (d : Kind) → length (l ++ (d ∷ [])) ≡ suc (length l)
+  length_snoc d = length-append l (d ∷ []) ∙ omega arith
 
-  written-snoc : (d : Kind) → Says γ w (length l) d → index d l ≡ length l → Written γ w (l ++ (d ∷ []))
-  written-snoc d D n = record {
-    says = λ k h. says-snoc d D k (omega (arith, h, length-snoc d));
-    distinct = λ i j h g e. distinct_snoc d (λ k i e. let q = index-first d l k i e in omega (arith, q, n, i)) i j (omega (arith, h, length-snoc d)) (omega (arith, g, length-snoc d)) e;
+  written_snoc : (d : Kind) → Says γ w (length l) d → index d l ≡ length l → Written γ w (l ++ (d ∷ []))
+  written_snoc d D n = record {
+    says = λ k h. says_snoc d D k (omega (arith, h, length_snoc d));
+    distinct = λ i j h g e. distinct_snoc d (λ k i e. let q = index-first d l k i e in omega (arith, q, n, i)) i j (omega (arith, h, length_snoc d)) (omega (arith, g, length_snoc d)) e;
   }
 
   pub put-new : (d : Kind) → index d l ≡ length l → put d l ≡ record { frames = l ++ (d ∷ []); number = length l }
@@ -214,7 +214,7 @@ module _ {γ : ℕ → Bool} {w : ℕ} {l : List Kind} (W : Written γ w l) wher
       ap (λ (p : Placed). kind_at p.frames p.number) (put-new d n) ∙ get_or-append_seam l d [] Never)
 
   -- a frame of a formula, in either case
-  pub put-places : (d : Kind) (f : Formula) → Says γ w (length l) d → build (formulaAt l) d ≡ f → Places γ w f l (put d l)
+  pub put-places : (d : Kind) (f : Formula) → Says γ w (length l) d → build (formula_at l) d ≡ f → Places γ w f l (put d l)
   put-places d f D e = by_bool (ltb (index d l) (length l))
       (λ t. let h : index d l < length l = omega tests in
       subst (Places γ w f l) (sym (put-old d h)) (record {
@@ -222,20 +222,20 @@ module _ {γ : ℕ → Bool} {w : ℕ} {l : List Kind} (W : Written γ w l) wher
         extends = sym (append-nil l);
         written = W;
         inside = h;
-        means = formula-at W (index d l) h ∙ ap (build (formulaAt l)) (index-hit d l h) ∙ e;
+        means = formula-at W (index d l) h ∙ ap (build (formula_at l)) (index-hit d l h) ∙ e;
       }))
       (λ t. let n : index d l ≡ length l = omega (tests, index-le d l) in
       let m = l ++ (d ∷ []) in
-      let Y = written-snoc d D n in
-      let h : length l < length m = omega (arith, length-snoc d) in
+      let Y = written_snoc d D n in
+      let h : length l < length m = omega (arith, length_snoc d) in
       subst (Places γ w f l) (sym (put-new d n)) (record {
         more = d ∷ [];
         extends = refl;
         written = Y;
         inside = h;
         means = formula-at Y (length l) h
-            ∙ ap (build (formulaAt m)) (get_or-append_seam l d [] Never)
-            ∙ build-same w (formulaAt m) (formulaAt l) (length l) d (says-fit D) (λ a i. formula-more W (d ∷ []) a i)
+            ∙ ap (build (formula_at m)) (get_or-append_seam l d [] Never)
+            ∙ build-same w (formula_at m) (formula_at l) (length l) d (says_fit D) (λ a i. formula-more W (d ∷ []) a i)
             ∙ e;
       }))
 
@@ -244,7 +244,7 @@ module _ {γ : ℕ → Bool} {w : ℕ} {l : List Kind} (W : Written γ w l) wher
   put_one d = by_bool (ltb (index d l) (length l))
       (λ t. let q = ap (λ (p : Placed). length p.frames) (put-old d (omega tests)) in omega (arith, q))
       (λ t. let n : index d l ≡ length l = omega (tests, index-le d l) in
-      let q = ap (λ (p : Placed). length p.frames) (put-new d n) in omega (arith, q, length-snoc d))
+      let q = ap (λ (p : Placed). length p.frames) (put-new d n) in omega (arith, q, length_snoc d))
 
   -- the frames after it are those before, and the one placed
   pub put-frames : (d : Kind) (k : ℕ) → k < length (put d l).frames → (k < length l) ⊎ (k ≡ (put d l).number)
@@ -253,7 +253,7 @@ module _ {γ : ℕ → Bool} {w : ℕ} {l : List Kind} (W : Written γ w l) wher
       (λ t. let n : index d l ≡ length l = omega (tests, index-le d l) in
       let q = put-new d n in
       let r = ap (λ (p : Placed). p.number) q in
-      let m : length (put d l).frames ≡ suc (length l) = ap (λ (p : Placed). length p.frames) q ∙ length-snoc d in
+      let m : length (put d l).frames ≡ suc (length l) = ap (λ (p : Placed). length p.frames) q ∙ length_snoc d in
       by_bool (ltb k (length l)) (λ s. inl (omega tests)) (λ s. inr (omega (tests, r, m, h))))
 
 -- one formula behind another
@@ -291,30 +291,30 @@ module _ {γ : ℕ → Bool} {w : ℕ} {l : List Kind} {p : Placed} {f : Formula
   unfolding build
   put-neg = put-places P.written (Not p.number) (neg f) (denies _ P.inside) (ap neg P.means)
 
-  pub put-quant : (d : Bool) (b c : ℕ) → 1 ≤ c → b + c ≤ w → Places γ w (quant d b c f) p.frames (put (quantOf d b c p.number) p.frames)
+  pub put-quant : (d : Bool) (b c : ℕ) → 1 ≤ c → b + c ≤ w → Places γ w (quant d b c f) p.frames (put (quant_of d b c p.number) p.frames)
   put-quant d b c m n =
-      put-places P.written (quantOf d b c p.number) (quant d b c f) (binds d b c _ P.inside m n)
-      (build-quant (formulaAt p.frames) d b c p.number ∙ ap (quant d b c) P.means)
+      put-places P.written (quant_of d b c p.number) (quant d b c f) (binds d b c _ P.inside m n)
+      (build-quant (formula_at p.frames) d b c p.number ∙ ap (quant d b c) P.means)
 
   -- the formula of a gate over both
-  pub joined : {q : Placed} {g : Formula} (d : Bool) → Places γ w g p.frames q → build (formulaAt q.frames) (gateOf d p.number q.number) ≡ gate d f g
+  pub joined : {q : Placed} {g : Formula} (d : Bool) → Places γ w g p.frames q → build (formula_at q.frames) (gate_of d p.number q.number) ≡ gate d f g
   joined {q} d Q =
-      build-gate (formulaAt q.frames) d p.number q.number
+      build-gate (formula_at q.frames) d p.number q.number
       ∙ ap₂ (gate d)
-      (ap (λ (k : List Kind). formulaAt k p.number) Q.extends ∙ formula-more P.written Q.more p.number P.inside ∙ P.means)
+      (ap (λ (k : List Kind). formula_at k p.number) Q.extends ∙ formula-more P.written Q.more p.number P.inside ∙ P.means)
       Q.means
 
-  pub put-gate : {q : Placed} {g : Formula} (d : Bool) → Places γ w g p.frames q → Places γ w (gate d f g) q.frames (put (gateOf d p.number q.number) q.frames)
+  pub put-gate : {q : Placed} {g : Formula} (d : Bool) → Places γ w g p.frames q → Places γ w (gate d f g) q.frames (put (gate_of d p.number q.number) q.frames)
   put-gate {q} {g} d Q =
       let inside : p.number < length q.frames = omega (arith, P.inside, ap length Q.extends ∙ length-append p.frames Q.more) in
-      put-places Q.written (gateOf d p.number q.number) (gate d f g) (joins d _ _ inside Q.inside) (joined d Q)
+      put-places Q.written (gate_of d p.number q.number) (gate d f g) (joins d _ _ inside Q.inside) (joined d Q)
 
 module _ (γ : ℕ → Bool) (w : ℕ) where
   -- the frame placed has the formula
   pub place-places : (f : Formula) (l : List Kind) → Every (Below w) f → Written γ w l → Places γ w f l (place γ f l)
   unfolding place build
   place-places never l h W = put-places W Never never nothing refl
-  place-places (input x) l h W = put-places W (reading (γ x) x) (input x) (reads x h) (build-reading (formulaAt l) (γ x) x)
+  place-places (input x) l h W = put-places W (reading (γ x) x) (input x) (reads x h) (build-reading (formula_at l) (γ x) x)
   place-places (neg f) l h W = let P = place-places f l h.1 W in after P (put-neg P)
   place-places (gate d f g) l h W =
       let P = place-places f l h.1 W in
@@ -325,12 +325,12 @@ module _ (γ : ℕ → Bool) (w : ℕ) where
   -- what every part of f has, and the frames before it, the frames behind it have
   module _ (P : Formula → Type 0) where
     abbrev pub AllAre : List Kind → Type 0
-    AllAre l = (k : ℕ) → k < length l → P (formulaAt l k)
+    AllAre l = (k : ℕ) → k < length l → P (formula_at l k)
 
     put-every : (d : Kind) (f : Formula) (l : List Kind) → Written γ w l → Places γ w f l (put d l) → AllAre l → P f → AllAre (put d l).frames
     put-every d f l W Q a p k h = ⊎_elim
-        (λ i. subst P (sym (ap (λ (m : List Kind). formulaAt m k) Q.extends ∙ formula-more W Q.more k i)) (a k i))
-        (λ e. subst P (sym (ap (formulaAt (put d l).frames) e ∙ Q.means)) p)
+        (λ i. subst P (sym (ap (λ (m : List Kind). formula_at m k) Q.extends ∙ formula-more W Q.more k i)) (a k i))
+        (λ e. subst P (sym (ap (formula_at (put d l).frames) e ∙ Q.means)) p)
         (put-frames W d k h)
 
     pub place-every : (f : Formula) (l : List Kind) → Every (Below w) f → Written γ w l → Every P f → AllAre l → AllAre (place γ f l).frames
@@ -353,9 +353,9 @@ module _ (γ : ℕ → Bool) (w : ℕ) where
 
 module _ {γ : ℕ → Bool} {w : ℕ} {l : List Kind} (W : Written γ w l) where
   abbrev Stays : ℕ → Type 0
-  Stays k = place γ (formulaAt l k) l ≡ record { frames = l; number = k }
+  Stays k = place γ (formula_at l k) l ≡ record { frames = l; number = k }
 
-  at : (k : ℕ) {f : Formula} → formulaAt l k ≡ f → place γ (formulaAt l k) l ≡ place γ f l
+  at : (k : ℕ) {f : Formula} → formula_at l k ≡ f → place γ (formula_at l k) l ≡ place γ f l
   at k q = ap (λ (f : Formula). place γ f l) q
 
   stays_by : (k : ℕ) → k < length l → Formed γ w (kind_at l) k → ((a : ℕ) → a < k → Stays a) → Stays k
@@ -365,22 +365,22 @@ module _ {γ : ℕ → Bool} {w : ℕ} {l : List Kind} (W : Written γ w l) wher
   stays_by k h (denies a i e q) s = at k q ∙ ap (λ (p : Placed). put (Not p.number) p.frames) (s a i) ∙ put-there W k _ h e
   stays_by k h (joins d a b i j e q) s =
       at k q
-      ∙ ap (λ (p : Placed). let r = place γ (formulaAt l b) p.frames in put (gateOf d p.number r.number) r.frames) (s a i)
-      ∙ ap (λ (r : Placed). put (gateOf d a r.number) r.frames) (s b j)
+      ∙ ap (λ (p : Placed). let r = place γ (formula_at l b) p.frames in put (gate_of d p.number r.number) r.frames) (s a i)
+      ∙ ap (λ (r : Placed). put (gate_of d a r.number) r.frames) (s b j)
       ∙ put-there W k _ h e
-  stays_by k h (binds d b c a i m n e q) s = at k q ∙ ap (λ (p : Placed). put (quantOf d b c p.number) p.frames) (s a i) ∙ put-there W k _ h e
+  stays_by k h (binds d b c a i m n e q) s = at k q ∙ ap (λ (p : Placed). put (quant_of d b c p.number) p.frames) (s a i) ∙ put-there W k _ h e
 
   stays-below : (n k : ℕ) → k < n → k < length l → Stays k
   stays-below zero k i h = absurd (omega arith)
   stays-below (suc n) k i h = stays_by k h (formed W.says k h) (λ a j. stays-below n a (omega arith) (omega arith))
 
   -- Placing the formula of a frame that is there gives that frame, and nothing more.
-  pub place-stays : (k : ℕ) (f : Formula) → k < length l → formulaAt l k ≡ f → place γ f l ≡ record { frames = l; number = k }
+  pub place-stays : (k : ℕ) (f : Formula) → k < length l → formula_at l k ≡ f → place γ f l ≡ record { frames = l; number = k }
   place-stays k f h e = ap (λ (g : Formula). place γ g l) (sym e) ∙ stays-below (suc k) k (omega arith) h
 
   -- so no two frames have one formula
-  pub formula-once : (i j : ℕ) → i < length l → j < length l → formulaAt l i ≡ formulaAt l j → i ≡ j
-  formula-once i j h g e = ap (λ (p : Placed). p.number) (sym (place-stays i (formulaAt l j) h e) ∙ place-stays j (formulaAt l j) g refl)
+  pub formula_once : (i j : ℕ) → i < length l → j < length l → formula_at l i ≡ formula_at l j → i ≡ j
+  formula_once i j h g e = ap (λ (p : Placed). p.number) (sym (place-stays i (formula_at l j) h e) ∙ place-stays j (formula_at l j) g refl)
 
 -- so a formula is placed once
 pub place-again : (γ : ℕ → Bool) (w : ℕ) (f : Formula) (l : List Kind) → Every (Below w) f → Written γ w l

@@ -6,9 +6,9 @@ use Rattle.sheet.specs.Frames.{formula}
 use Rattle.sheet.specs.Keeps.{Keeps}
 use Rattle.sheet.specs.declared.Kind.{Kind}
 use Rattle.sheet.specs.declared.Kind.TheVariants.{Never, Input, Not, And, Or, Exists, Forall, Gauge}
-use Rattle.normal.specs.Normal.{place, gaugeOf, normalFrames}
+use Rattle.normal.specs.Normal.{place, gauge_of, normal_frames}
 use Rattle.normal.specs.Words.{Holds}
-use Rattle.normal.specs.PlaceLaws.{Written, formulaAt}
+use Rattle.normal.specs.PlaceLaws.{Written, formula_at}
 
 -- ---- one frame among words
 
@@ -42,19 +42,19 @@ renamed ns (Forall a b c) = Forall (get_or ns a 0) b c
 renamed ns (Gauge x) = Gauge x
 
 -- the frame a, unless it has a number; then next
-abbrev pub unplacedOr : List ℕ → ℕ → ℕ → ℕ
-unplacedOr ns a next = cond (eqb (get_or ns a 0) none) a next
+abbrev pub unplaced_or : List ℕ → ℕ → ℕ → ℕ
+unplaced_or ns a next = cond (eqb (get_or ns a 0) none) a next
 
 -- the first frame that a kind names and that is not placed; the frame own, of that kind, where all are
-unfoldable pub firstUnplaced : List ℕ → Kind → ℕ → ℕ
-firstUnplaced ns Never own = own
-firstUnplaced ns (Input x) own = own
-firstUnplaced ns (Not a) own = unplacedOr ns a own
-firstUnplaced ns (And a b) own = unplacedOr ns a (unplacedOr ns b own)
-firstUnplaced ns (Or a b) own = unplacedOr ns a (unplacedOr ns b own)
-firstUnplaced ns (Exists a b c) own = unplacedOr ns a own
-firstUnplaced ns (Forall a b c) own = unplacedOr ns a own
-firstUnplaced ns (Gauge x) own = own
+unfoldable pub first_unplaced : List ℕ → Kind → ℕ → ℕ
+first_unplaced ns Never own = own
+first_unplaced ns (Input x) own = own
+first_unplaced ns (Not a) own = unplaced_or ns a own
+first_unplaced ns (And a b) own = unplaced_or ns a (unplaced_or ns b own)
+first_unplaced ns (Or a b) own = unplaced_or ns a (unplaced_or ns b own)
+first_unplaced ns (Exists a b c) own = unplaced_or ns a own
+first_unplaced ns (Forall a b c) own = unplaced_or ns a own
+first_unplaced ns (Gauge x) own = own
 
 -- how many of the first n frames are not placed
 unfoldable pub unplaced : List ℕ → ℕ → ℕ
@@ -76,7 +76,7 @@ Waits ns n low (k ∷ st) = (low ≤ k) × (get_or ns k 0 ≡ none) × Waits ns 
 -- the frames l, with those of the stack placed one after the other
 unfoldable pub finish : Sheet → List ℕ → List Kind → List Kind
 finish s [] l = l
-finish s (k ∷ st) l = finish s st (place (gaugeOf s) (formula s k) l).frames
+finish s (k ∷ st) l = finish s st (place (gauge_of s) (formula s k) l).frames
 
 -- turns that are left: each places a frame or makes the stack deeper, which has at most 3,000 frames
 abbrev pub left : List ℕ → ℕ → ℕ → ℕ
@@ -86,28 +86,28 @@ left ns n depth = unplaced ns n * 3001 + (3000 - depth)
 
 -- frame k is not placed, or has the number of a frame of l that has its formula
 abbrev pub Numbered : Sheet → List Kind → ℕ → ℕ → Type 0
-Numbered s l k m = (m ≡ none) ⊎ ((m < length l) × (formulaAt l m ≡ formula s k))
+Numbered s l k m = (m ≡ none) ⊎ ((m < length l) × (formula_at l m ≡ formula s k))
 
 pub record Visiting (s : Sheet) (ws ns st : List ℕ) (count depth : ℕ) : Type 0 where
   pub keeps : Keeps s
-  pub words-room : frames s ≤ length ws
+  pub words_room : frames s ≤ length ws
   pub numbers-room : frames s ≤ length ns
-  pub stack-room : frames s ≤ length st
+  pub stack_room : frames s ≤ length st
   -- the frames written so far
   pub list : List Kind
   pub counted : count ≡ length list
   pub holds : Holds ws list
-  pub written : Written (gaugeOf s) (variables s) list
+  pub written : Written (gauge_of s) (variables s) list
   pub numbered : (k : ℕ) → k < frames s → Numbered s list k (get_or ns k 0)
   -- each was written for a frame that is placed
   pub few : length list + unplaced ns (frames s) ≤ frames s
   pub waits : Waits ns (frames s) 0 (stack_of st depth)
   -- those on the stack lead to the normal sheet
-  pub leads : finish s (stack_of st depth) list ≡ normalFrames s
+  pub leads : finish s (stack_of st depth) list ≡ normal_frames s
 
 -- ---- the end
 
 -- the words begin with those of the normal sheet's frames, so many
 pub record Visited (s : Sheet) (ws : List ℕ) (count : ℕ) : Type 0 where
-  pub counted : count ≡ length (normalFrames s)
-  pub holds : Holds ws (normalFrames s)
+  pub counted : count ≡ length (normal_frames s)
+  pub holds : Holds ws (normal_frames s)

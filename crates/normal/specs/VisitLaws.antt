@@ -13,46 +13,46 @@ use Rattle.form.specs.declared.Form.{Form}
 use Rattle.form.specs.declared.Form.TheVariants.{Narrow, Wide}
 use Rattle.formula.specs.Formula.{Formula, neg, gate, quant}
 use Rattle.sheet.specs.Fields as Sheets
-use Rattle.sheet.specs.Fields.{Sheet, frames, variables, mostFrames, kind}
+use Rattle.sheet.specs.Fields.{Sheet, frames, variables, most_frames, kind}
 use Rattle.sheet.specs.Frames.{formula, Fit, fit-more}
 use Rattle.sheet.specs.Rules.{last}
 use Rattle.sheet.specs.Keeps.{Keeps}
 use Rattle.sheet.specs.declared.Fields.{Fields}
 use Rattle.sheet.specs.declared.Kind.{Kind}
 use Rattle.sheet.specs.declared.Kind.TheVariants.{Never, Input, Not, And, Or, Exists, Forall, Gauge}
-use Rattle.normal.specs.Normal.{fields_of, index, Placed, put, reading, gateOf, quantOf, place, gaugeOf, normalFrames}
-use Rattle.normal.specs.Words.{kind_at, fieldEnd, Fits, AllFit, word_of, Holds}
+use Rattle.normal.specs.Normal.{fields_of, index, Placed, put, reading, gate_of, quant_of, place, gauge_of, normal_frames}
+use Rattle.normal.specs.Words.{kind_at, field_end, Fits, AllFit, word_of, Holds}
 use Rattle.normal.specs.BytesLaws.{kind-of, word_same}
-use Rattle.normal.specs.PlaceLaws.{Says, nothing, reads, denies, joins, binds, Formed, formed, Written, none_written, formulaAt, index-le, index-hit, index-first, put-old, put-new, put-at, put_one, length-snoc, Places, Every, Below, place-places, place-stays, place-again, formula-more}
-use Rattle.normal.specs.NormalLaws.{kept, sheet-says, sheet-below, last-in}
-use Rattle.normal.specs.Visit.{Found, Puts, none, renamed, unplacedOr, firstUnplaced, unplaced, stack_of, Waits, finish, left, Numbered, Visiting, Visited}
+use Rattle.normal.specs.PlaceLaws.{Says, nothing, reads, denies, joins, binds, Formed, formed, Written, none_written, formula_at, index-le, index-hit, index-first, put-old, put-new, put-at, put_one, length_snoc, Places, Every, Below, place-places, place-stays, place-again, formula-more}
+use Rattle.normal.specs.NormalLaws.{kept, sheet_says, sheet-below, last_in}
+use Rattle.normal.specs.Visit.{Found, Puts, none, renamed, unplaced_or, first_unplaced, unplaced, stack_of, Waits, finish, left, Numbered, Visiting, Visited}
 
 -- ---- fields of frames fit the form
 
-most-fits : (F : Form) → Sizes.mostFrames F < fieldEnd F
+most-fits : (F : Form) → Sizes.most_frames F < field_end F
 most-fits Narrow = omega arith
 most-fits Wide = omega arith
 
-variables-fit : (F : Form) → Sizes.variables F < fieldEnd F
+variables-fit : (F : Form) → Sizes.variables F < field_end F
 variables-fit Narrow = omega arith
 variables-fit Wide = omega arith
 
-end-pos : (F : Form) → (0 < fieldEnd F) × (fieldEnd F ≤ 65536)
+end-pos : (F : Form) → (0 < field_end F) × (field_end F ≤ 65536)
 end-pos Narrow = (omega arith, omega arith)
 end-pos Wide = (omega arith, omega arith)
 
-module _ (F : Form) (k : ℕ) (few : k ≤ Sizes.mostFrames F) where
+module _ (F : Form) (k : ℕ) (few : k ≤ Sizes.most_frames F) where
   fits-reading : (g : Bool) (x : ℕ) → x < Sizes.variables F → Fits F (fields_of (reading g x))
   unfolding fields_of
   fits-reading true x h = record { k-fits = omega arith; a-fits = omega (arith, h, variables-fit F); b-fits = (end-pos F).0; c-fits = (end-pos F).0 }
   fits-reading false x h = record { k-fits = omega arith; a-fits = omega (arith, h, variables-fit F); b-fits = (end-pos F).0; c-fits = (end-pos F).0 }
 
-  fits-gate : (d : Bool) (a b : ℕ) → a < k → b < k → Fits F (fields_of (gateOf d a b))
+  fits-gate : (d : Bool) (a b : ℕ) → a < k → b < k → Fits F (fields_of (gate_of d a b))
   unfolding fields_of
   fits-gate true a b h g = record { k-fits = omega arith; a-fits = omega (arith, h, few, most-fits F); b-fits = omega (arith, g, few, most-fits F); c-fits = (end-pos F).0 }
   fits-gate false a b h g = record { k-fits = omega arith; a-fits = omega (arith, h, few, most-fits F); b-fits = omega (arith, g, few, most-fits F); c-fits = (end-pos F).0 }
 
-  fits-quant : (d : Bool) (b c a : ℕ) → a < k → b + c ≤ Sizes.variables F → Fits F (fields_of (quantOf d b c a))
+  fits-quant : (d : Bool) (b c a : ℕ) → a < k → b + c ≤ Sizes.variables F → Fits F (fields_of (quant_of d b c a))
   unfolding fields_of
   fits-quant true b c a h g = record { k-fits = omega arith; a-fits = omega (arith, h, few, most-fits F); b-fits = omega (arith, g, variables-fit F); c-fits = omega (arith, g, variables-fit F) }
   fits-quant false b c a h g = record { k-fits = omega arith; a-fits = omega (arith, h, few, most-fits F); b-fits = omega (arith, g, variables-fit F); c-fits = omega (arith, g, variables-fit F) }
@@ -66,7 +66,7 @@ module _ (F : Form) (k : ℕ) (few : k ≤ Sizes.mostFrames F) where
   says-fits (binds d b c a h m n) = fits-quant d b c a h n
 
 -- the fields of every frame of a list no longer than a sheet
-pub written-fit : (F : Form) {γ : ℕ → Bool} {l : List Kind} → Written γ (Sizes.variables F) l → length l ≤ Sizes.mostFrames F → AllFit F l
+pub written-fit : (F : Form) {γ : ℕ → Bool} {l : List Kind} → Written γ (Sizes.variables F) l → length l ≤ Sizes.most_frames F → AllFit F l
 written-fit F W few k h = says-fits F k (omega (arith, h, few)) (W.says k h)
 
 wider : (F : Form) (f : Fields) → Fits F f → Fits Wide f
@@ -98,8 +98,8 @@ module _ {ws : List ℕ} {l : List Kind} (H : Holds ws l) (fit : AllFit Wide l) 
       absurd (R.miss i (omega tests) (H.words i h ∙ ap (λ (c : Kind). word_of (fields_of c)) (index-hit d l h))))
       (λ t. omega (tests, low))
 
-holds-snoc : {ws : List ℕ} {l : List Kind} → Holds ws l → (d : Kind) → length l < length ws → Holds (set ws (length l) (word_of (fields_of d))) (l ++ (d ∷ []))
-holds-snoc {ws} {l} H d h = record {
+holds_snoc : {ws : List ℕ} {l : List Kind} → Holds ws l → (d : Kind) → length l < length ws → Holds (set ws (length l) (word_of (fields_of d))) (l ++ (d ∷ []))
+holds_snoc {ws} {l} H d h = record {
   room = omega (arith, h, length-append l (d ∷ []), length-set ws (length l) (word_of (fields_of d)));
   words = λ k i. by_bool (ltb k (length l))
       (λ t. get_or-set_other ws (length l) k (word_of (fields_of d)) 0 (λ e. omega (tests, e))
@@ -115,9 +115,9 @@ pub record Held (ws : List ℕ) (p : Placed) (number count : ℕ) : Type 0 where
   pub count-is : count ≡ length p.frames
   pub holds : Holds ws p.frames
 
-pub puts-held : {γ : ℕ → Bool} {w : ℕ} {ws ws' : List ℕ} {l : List Kind} {n number count : ℕ} → Written γ w l → Holds ws l → AllFit Wide l → (d : Kind) → Fits Wide (fields_of d)
+pub puts_held : {γ : ℕ → Bool} {w : ℕ} {ws ws' : List ℕ} {l : List Kind} {n number count : ℕ} → Written γ w l → Holds ws l → AllFit Wide l → (d : Kind) → Fits Wide (fields_of d)
     → n ≡ length l → n < length ws → Puts ws n (word_of (fields_of d)) ws' number count → Held ws' (put d l) number count
-puts-held {ws = ws} {ws' = ws'} {l = l} {n = n} {number = number} {count = count} W H fit d D e h P =
+puts_held {ws = ws} {ws' = ws'} {l = l} {n = n} {number = number} {count = count} W H fit d D e h P =
     let q = found-index H fit d D e P.found in
     by_bool (ltb (index d l) (length l))
     (λ t. let i : index d l < length l = omega tests in
@@ -131,9 +131,9 @@ puts-held {ws = ws} {ws' = ws'} {l = l} {n = n} {number = number} {count = count
     let r : ltb number n ≡ false = le-ltb number n (omega (arith, q, e, i)) in
     subst (λ (p : Placed). Held ws' p number count) (sym (put-new W d i)) (record {
       number_is = q ∙ i;
-      count-is = P.counted ∙ rw r (omega (arith, e, length-snoc W d));
+      count-is = P.counted ∙ rw r (omega (arith, e, length_snoc W d));
       holds = subst (λ (v : List ℕ). Holds v (l ++ (d ∷ []))) (sym (P.words ∙ rw r (ap (λ (m : ℕ). set ws m (word_of (fields_of d))) e)))
-          (holds-snoc H d (omega (arith, e, h)));
+          (holds_snoc H d (omega (arith, e, h)));
     }))
 
 -- ---- frames that are not placed
@@ -154,19 +154,19 @@ unplaced-set ns k v (suc n) h i e l = by_bool (eqb k n)
 
 -- ---- the stack
 
-pub stack-under : (st : List ℕ) (e v d : ℕ) → d ≤ e → stack_of (set st e v) d ≡ stack_of st d
+pub stack_under : (st : List ℕ) (e v d : ℕ) → d ≤ e → stack_of (set st e v) d ≡ stack_of st d
 unfolding stack_of
-stack-under st e v zero h = refl
-stack-under st e v (suc d) h = rw (get_or-set_other st e d v 0 (λ q. omega (arith, q)), stack-under st e v d (omega arith))
+stack_under st e v zero h = refl
+stack_under st e v (suc d) h = rw (get_or-set_other st e d v 0 (λ q. omega (arith, q)), stack_under st e v d (omega arith))
 
 pub stack_push : (st : List ℕ) (v d : ℕ) → d < length st → stack_of (set st d v) (d + 1) ≡ v ∷ stack_of st d
 unfolding stack_of
-stack_push st v d h = rw (add-one d, get_or-set_same st d v 0 h, stack-under st d v d (omega arith))
+stack_push st v d h = rw (add-one d, get_or-set_same st d v 0 h, stack_under st d v d (omega arith))
 
-stack-length : (st : List ℕ) (d : ℕ) → length (stack_of st d) ≡ d
+stack_length : (st : List ℕ) (d : ℕ) → length (stack_of st d) ≡ d
 unfolding stack_of
-stack-length st zero = refl
-stack-length st (suc d) = ap suc (stack-length st d)
+stack_length st zero = refl
+stack_length st (suc d) = ap suc (stack_length st d)
 
 pub stack_top : (st : List ℕ) {d e : ℕ} → e ≡ suc d → stack_of st e ≡ get_or st d 0 ∷ stack_of st d
 unfolding stack_of
@@ -187,18 +187,18 @@ waits-set ns n k v low (j ∷ q) h w =
 
 -- ---- a frame and those that it names
 
-first-reading : (ns : List ℕ) (g : Bool) (x own : ℕ) → firstUnplaced ns (reading g x) own ≡ own
-unfolding firstUnplaced
+first-reading : (ns : List ℕ) (g : Bool) (x own : ℕ) → first_unplaced ns (reading g x) own ≡ own
+unfolding first_unplaced
 first-reading ns true x own = refl
 first-reading ns false x own = refl
 
-first-gate : (ns : List ℕ) (d : Bool) (a b own : ℕ) → firstUnplaced ns (gateOf d a b) own ≡ unplacedOr ns a (unplacedOr ns b own)
-unfolding firstUnplaced
+first-gate : (ns : List ℕ) (d : Bool) (a b own : ℕ) → first_unplaced ns (gate_of d a b) own ≡ unplaced_or ns a (unplaced_or ns b own)
+unfolding first_unplaced
 first-gate ns true a b own = refl
 first-gate ns false a b own = refl
 
-first-quant : (ns : List ℕ) (d : Bool) (b c a own : ℕ) → firstUnplaced ns (quantOf d b c a) own ≡ unplacedOr ns a own
-unfolding firstUnplaced
+first-quant : (ns : List ℕ) (d : Bool) (b c a own : ℕ) → first_unplaced ns (quant_of d b c a) own ≡ unplaced_or ns a own
+unfolding first_unplaced
 first-quant ns true b c a own = refl
 first-quant ns false b c a own = refl
 
@@ -207,29 +207,29 @@ unfolding renamed
 renamed-reading ns true x = refl
 renamed-reading ns false x = refl
 
-renamed-gate : (ns : List ℕ) (d : Bool) (a b : ℕ) → renamed ns (gateOf d a b) ≡ gateOf d (get_or ns a 0) (get_or ns b 0)
+renamed-gate : (ns : List ℕ) (d : Bool) (a b : ℕ) → renamed ns (gate_of d a b) ≡ gate_of d (get_or ns a 0) (get_or ns b 0)
 unfolding renamed
 renamed-gate ns true a b = refl
 renamed-gate ns false a b = refl
 
-renamed-quant : (ns : List ℕ) (d : Bool) (b c a : ℕ) → renamed ns (quantOf d b c a) ≡ quantOf d b c (get_or ns a 0)
+renamed-quant : (ns : List ℕ) (d : Bool) (b c a : ℕ) → renamed ns (quant_of d b c a) ≡ quant_of d b c (get_or ns a 0)
 unfolding renamed
 renamed-quant ns true b c a = refl
 renamed-quant ns false b c a = refl
 
 -- the frame a is the one, or it has a number
-or_cases : {A : Type 0} (ns : List ℕ) (a next : ℕ) → (get_or ns a 0 ≡ none → unplacedOr ns a next ≡ a → A) → ((get_or ns a 0 ≡ none → ⊥) → unplacedOr ns a next ≡ next → A) → A
+or_cases : {A : Type 0} (ns : List ℕ) (a next : ℕ) → (get_or ns a 0 ≡ none → unplaced_or ns a next ≡ a → A) → ((get_or ns a 0 ≡ none → ⊥) → unplaced_or ns a next ≡ next → A) → A
 or_cases ns a next f g = by_bool (eqb (get_or ns a 0) none)
     (λ t. f (omega tests) (rw t))
     (λ t. g (λ e. omega (tests, e)) (rw t))
 
-module _ (s : Sheet) (K : Keeps s) (ns : List ℕ) (l : List Kind) (W : Written (gaugeOf s) (variables s) l)
+module _ (s : Sheet) (K : Keeps s) (ns : List ℕ) (l : List Kind) (W : Written (gauge_of s) (variables s) l)
     (numbered : (k : ℕ) → k < frames s → Numbered s l k (get_or ns k 0)) where
   abbrev γ : ℕ → Bool
-  γ = gaugeOf s
+  γ = gauge_of s
 
   -- where a frame that has a number is placed: there, and nothing is added, and so behind other frames
-  stands : (a : ℕ) → a < frames s → (get_or ns a 0 ≡ none → ⊥) → (get_or ns a 0 < length l) × (formulaAt l (get_or ns a 0) ≡ formula s a)
+  stands : (a : ℕ) → a < frames s → (get_or ns a 0 ≡ none → ⊥) → (get_or ns a 0 < length l) × (formula_at l (get_or ns a 0) ≡ formula s a)
   stands a h u = ⊎_elim (λ e. absurd (u e)) (λ p. p) (numbered a h)
 
   stays : (a : ℕ) → a < frames s → (get_or ns a 0 ≡ none → ⊥) → place γ (formula s a) l ≡ record { frames = l; number = get_or ns a 0 }
@@ -244,7 +244,7 @@ module _ (s : Sheet) (K : Keeps s) (ns : List ℕ) (l : List Kind) (W : Written 
       let p = stands a h u in
       let P = placing b i in
       place-stays P.written (get_or ns a 0) (formula s a) (omega (arith, p.0, ap length P.extends ∙ length-append l P.more))
-      (ap (λ (m : List Kind). formulaAt m (get_or ns a 0)) P.extends ∙ formula-more W P.more (get_or ns a 0) p.0 ∙ p.1)
+      (ap (λ (m : List Kind). formula_at m (get_or ns a 0)) P.extends ∙ formula-more W P.more (get_or ns a 0) p.0 ∙ p.1)
 
   again : (b : ℕ) → b < frames s → place γ (formula s b) (place γ (formula s b) l).frames ≡ place γ (formula s b) l
   again b h = place-again γ (variables s) (formula s b) l (sheet-below s K b h) W
@@ -259,12 +259,12 @@ module _ (s : Sheet) (K : Keeps s) (ns : List ℕ) (l : List Kind) (W : Written 
     at : {f : Formula} (m : List Kind) → formula s own ≡ f → place γ (formula s own) m ≡ place γ f m
     at m q = ap (λ (f : Formula). place γ f m) q
 
-    child-as : (next : ℕ) → Formed γ (variables s) (kind s) own → next ≡ firstUnplaced ns (kind s own) own → (next ≡ own → ⊥) → Child own next
-    unfolding firstUnplaced place
-    child-as next (nothing e q) n u = absurd (u (n ∙ ap (λ (d : Kind). firstUnplaced ns d own) e))
-    child-as next (reads x i e q) n u = absurd (u (n ∙ ap (λ (d : Kind). firstUnplaced ns d own) e ∙ first-reading ns (γ x) x own))
-    child-as next (denies a i e q) n u =
-        let m = n ∙ ap (λ (d : Kind). firstUnplaced ns d own) e in
+    child_as : (next : ℕ) → Formed γ (variables s) (kind s) own → next ≡ first_unplaced ns (kind s own) own → (next ≡ own → ⊥) → Child own next
+    unfolding first_unplaced place
+    child_as next (nothing e q) n u = absurd (u (n ∙ ap (λ (d : Kind). first_unplaced ns d own) e))
+    child_as next (reads x i e q) n u = absurd (u (n ∙ ap (λ (d : Kind). first_unplaced ns d own) e ∙ first-reading ns (γ x) x own))
+    child_as next (denies a i e q) n u =
+        let m = n ∙ ap (λ (d : Kind). first_unplaced ns d own) e in
         or_cases ns a own
         (λ w t. rw (m ∙ t) (record {
           earlier = i;
@@ -272,14 +272,14 @@ module _ (s : Sheet) (K : Keeps s) (ns : List ℕ) (l : List Kind) (W : Written 
           before = at _ q ∙ ap (λ (p : Placed). put (Not p.number) p.frames) (again a (omega arith)) ∙ sym (at l q);
         }))
         (λ w t. absurd (u (m ∙ t)))
-    child-as next (joins d a b i j e q) n u =
-        let m = n ∙ ap (λ (d : Kind). firstUnplaced ns d own) e ∙ first-gate ns d a b own in
-        or_cases ns a (unplacedOr ns b own)
+    child_as next (joins d a b i j e q) n u =
+        let m = n ∙ ap (λ (d : Kind). first_unplaced ns d own) e ∙ first-gate ns d a b own in
+        or_cases ns a (unplaced_or ns b own)
         (λ w t. rw (m ∙ t) (record {
           earlier = i;
           waiting = w;
           before = at _ q
-              ∙ ap (λ (p : Placed). let r = place γ (formula s b) p.frames in put (gateOf d p.number r.number) r.frames) (again a (omega arith))
+              ∙ ap (λ (p : Placed). let r = place γ (formula s b) p.frames in put (gate_of d p.number r.number) r.frames) (again a (omega arith))
               ∙ sym (at l q);
         }))
         (λ w t. or_cases ns b own
@@ -287,54 +287,54 @@ module _ (s : Sheet) (K : Keeps s) (ns : List ℕ) (l : List Kind) (W : Written 
           earlier = j;
           waiting = v;
           before = at _ q
-              ∙ ap (λ (p : Placed). let r = place γ (formula s b) p.frames in put (gateOf d p.number r.number) r.frames) (stays-behind a b (omega arith) (omega arith) w)
-              ∙ ap (λ (r : Placed). put (gateOf d (get_or ns a 0) r.number) r.frames) (again b (omega arith))
+              ∙ ap (λ (p : Placed). let r = place γ (formula s b) p.frames in put (gate_of d p.number r.number) r.frames) (stays-behind a b (omega arith) (omega arith) w)
+              ∙ ap (λ (r : Placed). put (gate_of d (get_or ns a 0) r.number) r.frames) (again b (omega arith))
               ∙ sym (at l q
-              ∙ ap (λ (p : Placed). let r = place γ (formula s b) p.frames in put (gateOf d p.number r.number) r.frames) (stays a (omega arith) w));
+              ∙ ap (λ (p : Placed). let r = place γ (formula s b) p.frames in put (gate_of d p.number r.number) r.frames) (stays a (omega arith) w));
         }))
         (λ v r. absurd (u (m ∙ t ∙ r))))
-    child-as next (binds d b c a i k h e q) n u =
-        let m = n ∙ ap (λ (d : Kind). firstUnplaced ns d own) e ∙ first-quant ns d b c a own in
+    child_as next (binds d b c a i k h e q) n u =
+        let m = n ∙ ap (λ (d : Kind). first_unplaced ns d own) e ∙ first-quant ns d b c a own in
         or_cases ns a own
         (λ w t. rw (m ∙ t) (record {
           earlier = i;
           waiting = w;
-          before = at _ q ∙ ap (λ (p : Placed). put (quantOf d b c p.number) p.frames) (again a (omega arith)) ∙ sym (at l q);
+          before = at _ q ∙ ap (λ (p : Placed). put (quant_of d b c p.number) p.frames) (again a (omega arith)) ∙ sym (at l q);
         }))
         (λ w t. absurd (u (m ∙ t)))
 
     -- where all that it names are placed, it is one frame more
-    ready-as : Formed γ (variables s) (kind s) own → own ≡ firstUnplaced ns (kind s own) own → place γ (formula s own) l ≡ put (renamed ns (kind s own)) l
-    unfolding firstUnplaced place renamed
-    ready-as (nothing e q) n = at l q ∙ ap (λ (d : Kind). put (renamed ns d) l) (sym e)
-    ready-as (reads x i e q) n = at l q ∙ ap (λ (d : Kind). put d l) (sym (ap (renamed ns) e ∙ renamed-reading ns (γ x) x))
-    ready-as (denies a i e q) n =
-        let m = n ∙ ap (λ (d : Kind). firstUnplaced ns d own) e in
+    ready_as : Formed γ (variables s) (kind s) own → own ≡ first_unplaced ns (kind s own) own → place γ (formula s own) l ≡ put (renamed ns (kind s own)) l
+    unfolding first_unplaced place renamed
+    ready_as (nothing e q) n = at l q ∙ ap (λ (d : Kind). put (renamed ns d) l) (sym e)
+    ready_as (reads x i e q) n = at l q ∙ ap (λ (d : Kind). put d l) (sym (ap (renamed ns) e ∙ renamed-reading ns (γ x) x))
+    ready_as (denies a i e q) n =
+        let m = n ∙ ap (λ (d : Kind). first_unplaced ns d own) e in
         or_cases ns a own
         (λ w t. absurd (let c = m ∙ t in omega (arith, c, i)))
         (λ w t. at l q ∙ ap (λ (p : Placed). put (Not p.number) p.frames) (stays a (omega arith) w) ∙ ap (λ (d : Kind). put (renamed ns d) l) (sym e))
-    ready-as (joins d a b i j e q) n =
-        let m = n ∙ ap (λ (d : Kind). firstUnplaced ns d own) e ∙ first-gate ns d a b own in
-        or_cases ns a (unplacedOr ns b own)
+    ready_as (joins d a b i j e q) n =
+        let m = n ∙ ap (λ (d : Kind). first_unplaced ns d own) e ∙ first-gate ns d a b own in
+        or_cases ns a (unplaced_or ns b own)
         (λ w t. absurd (let c = m ∙ t in omega (arith, c, i)))
         (λ w t. or_cases ns b own
         (λ v r. absurd (let c = m ∙ t ∙ r in omega (arith, c, j)))
         (λ v r. at l q
-        ∙ ap (λ (p : Placed). let r = place γ (formula s b) p.frames in put (gateOf d p.number r.number) r.frames) (stays a (omega arith) w)
-        ∙ ap (λ (r : Placed). put (gateOf d (get_or ns a 0) r.number) r.frames) (stays b (omega arith) v)
+        ∙ ap (λ (p : Placed). let r = place γ (formula s b) p.frames in put (gate_of d p.number r.number) r.frames) (stays a (omega arith) w)
+        ∙ ap (λ (r : Placed). put (gate_of d (get_or ns a 0) r.number) r.frames) (stays b (omega arith) v)
         ∙ ap (λ (c : Kind). put c l) (sym (ap (renamed ns) e ∙ renamed-gate ns d a b))))
-    ready-as (binds d b c a i k h e q) n =
-        let m = n ∙ ap (λ (d : Kind). firstUnplaced ns d own) e ∙ first-quant ns d b c a own in
+    ready_as (binds d b c a i k h e q) n =
+        let m = n ∙ ap (λ (d : Kind). first_unplaced ns d own) e ∙ first-quant ns d b c a own in
         or_cases ns a own
         (λ w t. absurd (let c = m ∙ t in omega (arith, c, i)))
-        (λ w t. at l q ∙ ap (λ (p : Placed). put (quantOf d b c p.number) p.frames) (stays a (omega arith) w)
+        (λ w t. at l q ∙ ap (λ (p : Placed). put (quant_of d b c p.number) p.frames) (stays a (omega arith) w)
         ∙ ap (λ (c : Kind). put c l) (sym (ap (renamed ns) e ∙ renamed-quant ns d b c a)))
 
-    pub child : {next : ℕ} → next ≡ firstUnplaced ns (kind s own) own → (next ≡ own → ⊥) → Child own next
-    child {next} n u = child-as next (formed (sheet-says s K) own inside) n u
+    pub child : {next : ℕ} → next ≡ first_unplaced ns (kind s own) own → (next ≡ own → ⊥) → Child own next
+    child {next} n u = child_as next (formed (sheet_says s K) own inside) n u
 
-    pub ready : own ≡ firstUnplaced ns (kind s own) own → place γ (formula s own) l ≡ put (renamed ns (kind s own)) l
-    ready n = ready-as (formed (sheet-says s K) own inside) n
+    pub ready : own ≡ first_unplaced ns (kind s own) own → place γ (formula s own) l ≡ put (renamed ns (kind s own)) l
+    ready n = ready_as (formed (sheet_says s K) own inside) n
 
 -- ---- a turn
 
@@ -346,42 +346,42 @@ module _ {s : Sheet} {ws ns st : List ℕ} {count depth : ℕ} (T : Visiting s w
   abbrev own : ℕ
   own = get_or st d 0
 
-  waits-top : Waits ns (frames s) 0 (own ∷ stack_of st d)
-  waits-top = subst (Waits ns (frames s) 0) (stack_top st deep) T.waits
+  waits_top : Waits ns (frames s) 0 (own ∷ stack_of st d)
+  waits_top = subst (Waits ns (frames s) 0) (stack_top st deep) T.waits
 
-  pub top-inside : own < frames s
-  top-inside = let h = waits-few ns (frames s) (suc own) (stack_of st d) waits-top.2 in omega (arith, h)
+  pub top_inside : own < frames s
+  top_inside = let h = waits-few ns (frames s) (suc own) (stack_of st d) waits_top.2 in omega (arith, h)
 
-  pub top-room : d < length st
-  top-room = let h = waits-few ns (frames s) 0 (own ∷ stack_of st d) waits-top in omega (arith, h, stack-length st d, T.stack-room)
+  pub top_room : d < length st
+  top_room = let h = waits-few ns (frames s) 0 (own ∷ stack_of st d) waits_top in omega (arith, h, stack_length st d, T.stack_room)
 
-  leads-top : finish s (own ∷ stack_of st d) T.list ≡ normalFrames s
-  leads-top = ap (λ (q : List ℕ). finish s q T.list) (sym (stack_top st deep)) ∙ T.leads
+  leads_top : finish s (own ∷ stack_of st d) T.list ≡ normal_frames s
+  leads_top = ap (λ (q : List ℕ). finish s q T.list) (sym (stack_top st deep)) ∙ T.leads
 
   -- a frame that it names goes on top
-  module _ {next : ℕ} (first : next ≡ firstUnplaced ns (kind s own) own) (other : next ≡ own → ⊥) where
+  module _ {next : ℕ} (first : next ≡ first_unplaced ns (kind s own) own) (other : next ≡ own → ⊥) where
     below : Child s T.keeps ns T.list T.written T.numbered own next
-    below = child s T.keeps ns T.list T.written T.numbered own top-inside first other
+    below = child s T.keeps ns T.list T.written T.numbered own top_inside first other
 
     waits-next : Waits ns (frames s) 0 (next ∷ own ∷ stack_of st d)
-    waits-next = (omega arith, below.waiting, (below.earlier, waits-top.1, waits-top.2))
+    waits-next = (omega arith, below.waiting, (below.earlier, waits_top.1, waits_top.2))
 
-    push-few : depth + next < frames s
-    push-few = let h = waits-few ns (frames s) (suc next) (own ∷ stack_of st d) waits-next.2 in omega (arith, h, stack-length st d, deep)
+    push_few : depth + next < frames s
+    push_few = let h = waits-few ns (frames s) (suc next) (own ∷ stack_of st d) waits-next.2 in omega (arith, h, stack_length st d, deep)
 
-    pub push-room : depth < length st
-    push-room = omega (arith, push-few, T.stack-room)
+    pub push_room : depth < length st
+    push_room = omega (arith, push_few, T.stack_room)
 
     pushed : stack_of (set st depth next) (depth + 1) ≡ next ∷ own ∷ stack_of st d
-    pushed = stack_push st next depth push-room ∙ ap (λ (q : List ℕ). next ∷ q) (stack_top st deep)
+    pushed = stack_push st next depth push_room ∙ ap (λ (q : List ℕ). next ∷ q) (stack_top st deep)
 
-    pub push-visiting : Visiting s ws ns (set st depth next) count (depth + 1)
+    pub push_visiting : Visiting s ws ns (set st depth next) count (depth + 1)
     unfolding finish
-    push-visiting = record {
+    push_visiting = record {
       keeps = T.keeps;
-      words-room = T.words-room;
+      words_room = T.words_room;
       numbers-room = T.numbers-room;
-      stack-room = omega (arith, T.stack-room, length-set st depth next);
+      stack_room = omega (arith, T.stack_room, length-set st depth next);
       list = T.list;
       counted = T.counted;
       holds = T.holds;
@@ -391,36 +391,36 @@ module _ {s : Sheet} {ws ns st : List ℕ} {count depth : ℕ} (T : Visiting s w
       waits = subst (Waits ns (frames s) 0) (sym pushed) waits-next;
       leads = ap (λ (q : List ℕ). finish s q T.list) pushed
           ∙ ap (λ (p : Placed). finish s (stack_of st d) p.frames) below.before
-          ∙ leads-top;
+          ∙ leads_top;
     }
 
-    pub push-left : left ns (frames s) (depth + 1) < left ns (frames s) depth
-    push-left = omega (arith, push-few, few-frames T.keeps)
+    pub push_left : left ns (frames s) (depth + 1) < left ns (frames s) depth
+    push_left = omega (arith, push_few, few-frames T.keeps)
 
   -- or it is placed itself
-  module _ (first : own ≡ firstUnplaced ns (kind s own) own) where
+  module _ (first : own ≡ first_unplaced ns (kind s own) own) where
     abbrev frame : Kind
     frame = renamed ns (kind s own)
 
     abbrev placed : Placed
     placed = put frame T.list
 
-    is-placed : place (gaugeOf s) (formula s own) T.list ≡ placed
-    is-placed = ready s T.keeps ns T.list T.written T.numbered own top-inside first
+    is-placed : place (gauge_of s) (formula s own) T.list ≡ placed
+    is-placed = ready s T.keeps ns T.list T.written T.numbered own top_inside first
 
-    places : Places (gaugeOf s) (variables s) (formula s own) T.list placed
-    places = subst (Places (gaugeOf s) (variables s) (formula s own) T.list) is-placed
-        (place-places (gaugeOf s) (variables s) (formula s own) T.list (sheet-below s T.keeps own top-inside) T.written)
+    places : Places (gauge_of s) (variables s) (formula s own) T.list placed
+    places = subst (Places (gauge_of s) (variables s) (formula s own) T.list) is-placed
+        (place-places (gauge_of s) (variables s) (formula s own) T.list (sheet-below s T.keeps own top_inside) T.written)
 
     -- there is room for one frame more
     one_less : (v : ℕ) → v < none → suc (unplaced (set ns own v) (frames s)) ≡ unplaced ns (frames s)
-    one_less v h = unplaced-set ns own v (frames s) top-inside (omega (arith, top-inside, T.numbers-room)) waits-top.1 h
+    one_less v h = unplaced-set ns own v (frames s) top_inside (omega (arith, top_inside, T.numbers-room)) waits_top.1 h
 
     more : length T.list < frames s
     more = omega (arith, T.few, one_less 0 (omega arith))
 
     pub put-room : count < length ws
-    put-room = omega (arith, more, T.counted, T.words-room)
+    put-room = omega (arith, more, T.counted, T.words_room)
 
     placed-few : length placed.frames ≤ frames s
     placed-few = omega (arith, more, put_one T.written frame)
@@ -432,40 +432,40 @@ module _ {s : Sheet} {ws ns st : List ℕ} {count depth : ℕ} (T : Visiting s w
 
     module _ {ws' : List ℕ} {number count' : ℕ} (P : Puts ws count (word_of (fields_of frame)) ws' number count') (same : length ws' ≡ length ws) where
       held : Held ws' placed number count'
-      held = puts-held T.written T.holds
+      held = puts_held T.written T.holds
           (λ k h. wider s.form _ (written-fit s.form T.written (omega (arith, more, T.keeps.most)) k h))
           frame (wider s.form (fields_of frame) frame-fits) T.counted put-room P
 
       pub number-few : number < none
       number-few = omega (arith, held.number_is, places.inside, placed-few, few-frames T.keeps)
 
-      numbered-then : (k : ℕ) → k < frames s → Numbered s placed.frames k (get_or (set ns own number) k 0)
-      numbered-then k h = by_bool (eqb k own)
+      numbered_then : (k : ℕ) → k < frames s → Numbered s placed.frames k (get_or (set ns own number) k 0)
+      numbered_then k h = by_bool (eqb k own)
           (λ t. let e : k ≡ own = omega tests in
-          rw (e, get_or-set_same ns own number 0 (omega (arith, top-inside, T.numbers-room)), held.number_is) (inr (places.inside, places.means)))
+          rw (e, get_or-set_same ns own number 0 (omega (arith, top_inside, T.numbers-room)), held.number_is) (inr (places.inside, places.means)))
           (λ t. rw (get_or-set_other ns own k number 0 (λ e. omega (tests, e))) (⊎_elim
           (λ e. inl e)
           (λ p. inr (
             omega (arith, p.0, ap length places.extends ∙ length-append T.list places.more),
-            ap (λ (m : List Kind). formulaAt m (get_or ns k 0)) places.extends ∙ formula-more T.written places.more (get_or ns k 0) p.0 ∙ p.1,
+            ap (λ (m : List Kind). formula_at m (get_or ns k 0)) places.extends ∙ formula-more T.written places.more (get_or ns k 0) p.0 ∙ p.1,
           ))
           (T.numbered k h)))
 
-      pub put-visiting : Visiting s ws' (set ns own number) st count' d
+      pub put_visiting : Visiting s ws' (set ns own number) st count' d
       unfolding finish
-      put-visiting = record {
+      put_visiting = record {
         keeps = T.keeps;
-        words-room = omega (arith, same, T.words-room);
+        words_room = omega (arith, same, T.words_room);
         numbers-room = omega (arith, T.numbers-room, length-set ns own number);
-        stack-room = T.stack-room;
+        stack_room = T.stack_room;
         list = placed.frames;
         counted = held.count-is;
         holds = held.holds;
         written = places.written;
-        numbered = numbered-then;
+        numbered = numbered_then;
         few = omega (arith, T.few, one_less number number-few, put_one T.written frame);
-        waits = waits-lower _ _ _ 0 (stack_of st d) (omega arith) (waits-set ns (frames s) own number (suc own) (stack_of st d) (omega arith) waits-top.2);
-        leads = ap (λ (p : Placed). finish s (stack_of st d) p.frames) (sym is-placed) ∙ leads-top;
+        waits = waits-lower _ _ _ 0 (stack_of st d) (omega arith) (waits-set ns (frames s) own number (suc own) (stack_of st d) (omega arith) waits_top.2);
+        leads = ap (λ (p : Placed). finish s (stack_of st d) p.frames) (sym is-placed) ∙ leads_top;
       }
 
       pub put-left : left (set ns own number) (frames s) d < left ns (frames s) depth
@@ -478,11 +478,11 @@ module _ {s : Sheet} {ws ns st : List ℕ} {count depth : ℕ} (T : Visiting s w
   one_more = omega arith
 
   pub stack-fits : depth ≤ length st
-  stack-fits = let h = top-room T one_more in omega (arith, h)
+  stack-fits = let h = top_room T one_more in omega (arith, h)
 
   module _ {own : ℕ} {κ : Kind} (top : own ≡ get_or st (depth - 1) 0) (said : κ ≡ kind s own) where
     own-inside : own < frames s
-    own-inside = subst (λ (o : ℕ). o < frames s) (sym top) (top-inside T one_more)
+    own-inside = subst (λ (o : ℕ). o < frames s) (sym top) (top_inside T one_more)
 
     pub turn_inside : own < length ns
     turn_inside = omega (arith, own-inside, T.numbers-room)
@@ -491,45 +491,45 @@ module _ {s : Sheet} {ws ns st : List ℕ} {count depth : ℕ} (T : Visiting s w
     turn-fit = fit-more (variables s) 64 own (length ns) κ (few-variables s.form) (omega (arith, turn_inside))
         (subst (Fit (variables s) own) (sym said) ((kept s T.keeps).ordered.fit own))
 
-    module _ {next : ℕ} (first : next ≡ firstUnplaced ns κ own) where
-      first_by : next ≡ firstUnplaced ns (kind s (get_or st (depth - 1) 0)) (get_or st (depth - 1) 0)
-      first_by = first ∙ ap (λ (d : Kind). firstUnplaced ns d own) said ∙ ap (λ (o : ℕ). firstUnplaced ns (kind s o) o) top
+    module _ {next : ℕ} (first : next ≡ first_unplaced ns κ own) where
+      first_by : next ≡ first_unplaced ns (kind s (get_or st (depth - 1) 0)) (get_or st (depth - 1) 0)
+      first_by = first ∙ ap (λ (d : Kind). first_unplaced ns d own) said ∙ ap (λ (o : ℕ). first_unplaced ns (kind s o) o) top
 
       module _ (other : next ≡ own → ⊥) where
         other-by : next ≡ get_or st (depth - 1) 0 → ⊥
         other-by e = other (e ∙ sym top)
 
         pub next-room : depth < length st
-        next-room = push-room T one_more first_by other-by
+        next-room = push_room T one_more first_by other-by
 
-        pub turn-push : {st' : List ℕ} → st' ≡ set st depth next
+        pub turn_push : {st' : List ℕ} → st' ≡ set st depth next
             → Visiting s ws ns st' count (depth + 1) × (left ns (frames s) (depth + 1) < left ns (frames s) depth)
-        turn-push e = (
-          subst (λ (q : List ℕ). Visiting s ws ns q count (depth + 1)) (sym e) (push-visiting T one_more first_by other-by),
-          push-left T one_more first_by other-by,
+        turn_push e = (
+          subst (λ (q : List ℕ). Visiting s ws ns q count (depth + 1)) (sym e) (push_visiting T one_more first_by other-by),
+          push_left T one_more first_by other-by,
         )
 
       module _ (mine : next ≡ own) where
-        mine-by : get_or st (depth - 1) 0 ≡ firstUnplaced ns (kind s (get_or st (depth - 1) 0)) (get_or st (depth - 1) 0)
-        mine-by = sym top ∙ sym mine ∙ first_by
+        mine_by : get_or st (depth - 1) 0 ≡ first_unplaced ns (kind s (get_or st (depth - 1) 0)) (get_or st (depth - 1) 0)
+        mine_by = sym top ∙ sym mine ∙ first_by
 
         pub turn-room : count < length ws
-        turn-room = put-room T one_more mine-by
+        turn-room = put-room T one_more mine_by
 
         module _ {w : ℕ} {ws' : List ℕ} {number count' : ℕ} (word : w ≡ word_of (fields_of (renamed ns κ))) (P : Puts ws count w ws' number count') (same : length ws' ≡ length ws) where
-          puts-by : Puts ws count (word_of (fields_of (renamed ns (kind s (get_or st (depth - 1) 0))))) ws' number count'
-          puts-by = subst (λ (v : ℕ). Puts ws count v ws' number count')
+          puts_by : Puts ws count (word_of (fields_of (renamed ns (kind s (get_or st (depth - 1) 0))))) ws' number count'
+          puts_by = subst (λ (v : ℕ). Puts ws count v ws' number count')
               (word ∙ ap (λ (d : Kind). word_of (fields_of (renamed ns d))) (said ∙ ap (kind s) top)) P
 
           pub turn-number : number < none
-          turn-number = number-few T one_more mine-by puts-by same
+          turn-number = number-few T one_more mine_by puts_by same
 
           pub turn-put : {ns' : List ℕ} → ns' ≡ set ns own number
               → Visiting s ws' ns' st count' (depth - 1) × (left ns' (frames s) (depth - 1) < left ns (frames s) depth)
           turn-put e =
               let q = e ∙ ap (λ (o : ℕ). set ns o number) top in (
-                subst (λ (m : List ℕ). Visiting s ws' m st count' (depth - 1)) (sym q) (put-visiting T one_more mine-by puts-by same),
-                subst (λ (m : List ℕ). left m (frames s) (depth - 1) < left ns (frames s) depth) (sym q) (put-left T one_more mine-by puts-by same),
+                subst (λ (m : List ℕ). Visiting s ws' m st count' (depth - 1)) (sym q) (put_visiting T one_more mine_by puts_by same),
+                subst (λ (m : List ℕ). left m (frames s) (depth - 1) < left ns (frames s) depth) (sym q) (put-left T one_more mine_by puts_by same),
               )
 
 -- ---- the first turn and the last
@@ -537,7 +537,7 @@ module _ {s : Sheet} {ws ns st : List ℕ} {count depth : ℕ} (T : Visiting s w
 pub visited : {s : Sheet} {ws ns st : List ℕ} {count depth : ℕ} → Visiting s ws ns st count depth → depth ≡ 0 → Visited s ws count
 unfolding finish stack_of
 visited {s} {ws} {ns} {st} {count} T e =
-    let q : T.list ≡ normalFrames s = ap (λ (d : ℕ). finish s (stack_of st d) T.list) (sym e) ∙ T.leads in
+    let q : T.list ≡ normal_frames s = ap (λ (d : ℕ). finish s (stack_of st d) T.list) (sym e) ∙ T.leads in
     record { counted = T.counted ∙ ap length q; holds = subst (Holds ws) q T.holds }
 
 unplaced-le : (ns : List ℕ) (n : ℕ) → unplaced ns n ≤ n
@@ -550,20 +550,20 @@ unplaced-le ns (suc n) = by_bool (eqb (get_or ns n 0) none)
 -- only the last frame waits
 pub begins : {s : Sheet} {ws ns : List ℕ} {v : ℕ} {st' : List ℕ} (st : List ℕ) → v ≡ last s → st' ≡ set st 0 v → Keeps s → frames s ≤ length ws → frames s ≤ length ns → frames s ≤ length st
     → ((k : ℕ) → k < frames s → get_or ns k 0 ≡ none) → Visiting s ws ns st' 0 1
-unfolding finish stack_of normalFrames
+unfolding finish stack_of normal_frames
 begins {s} {ws} {ns} {v} {st'} st e q K w n t u =
     let top : get_or st' 0 0 ≡ last s = ap (λ (l : List ℕ). get_or l 0 0) q ∙ get_or-set_same st 0 v 0 (omega (arith, t, K.least)) ∙ e in
     record {
       keeps = K;
-      words-room = w;
+      words_room = w;
       numbers-room = n;
-      stack-room = omega (arith, t, ap length q ∙ length-set st 0 v);
+      stack_room = omega (arith, t, ap length q ∙ length-set st 0 v);
       list = [];
       counted = refl;
       holds = record { room = omega arith; words = λ k h. absurd (omega arith) };
-      written = none_written (gaugeOf s) (variables s);
+      written = none_written (gauge_of s) (variables s);
       numbered = λ k h. inl (u k h);
       few = omega (arith, unplaced-le ns (frames s));
-      waits = rw top (omega arith, u (last s) (last-in s K), omega (arith, K.least));
+      waits = rw top (omega arith, u (last s) (last_in s K), omega (arith, K.least));
       leads = rw top refl;
     }

@@ -10,6 +10,6 @@ word_bytes Wide w =
     w / 281474976710656 % 256 ∷ w / 1099511627776 % 256 ∷ w / 4294967296 % 256 ∷ w / 16777216 % 256 ∷ w / 65536 % 256 ∷ w / 256 % 256 ∷ w % 256 ∷ []
 
 -- and of the first k words
-unfoldable pub wordsBytes : Form → List ℕ → ℕ → List ℕ
-wordsBytes F ws zero = []
-wordsBytes F ws (suc k) = wordsBytes F ws k ++ word_bytes F (get_or ws k 0)
+unfoldable pub words_bytes : Form → List ℕ → ℕ → List ℕ
+words_bytes F ws zero = []
+words_bytes F ws (suc k) = words_bytes F ws k ++ word_bytes F (get_or ws k 0)

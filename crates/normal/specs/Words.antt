@@ -12,16 +12,16 @@ abbrev pub kind_at : List Kind → ℕ → Kind
 kind_at l k = get_or l k Never
 
 -- fields are the numbers below
-abbrev pub fieldEnd : Form → ℕ
-fieldEnd Narrow = 256
-fieldEnd Wide = 65536
+abbrev pub field_end : Form → ℕ
+field_end Narrow = 256
+field_end Wide = 65536
 
 -- these fields can be written in a frame of the form
 pub record Fits (F : Form) (f : Fields) : Type 0 where
   pub k-fits : f.k < 256
-  pub a-fits : f.a < fieldEnd F
-  pub b-fits : f.b < fieldEnd F
-  pub c-fits : f.c < fieldEnd F
+  pub a-fits : f.a < field_end F
+  pub b-fits : f.b < field_end F
+  pub c-fits : f.c < field_end F
 
 abbrev pub AllFit : Form → List Kind → Type 0
 AllFit F l = (k : ℕ) → k < length l → Fits F (fields_of (kind_at l k))

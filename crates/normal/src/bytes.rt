@@ -1,9 +1,9 @@
 // Frames as words, and the bytes of the frames that words hold.
 ghost use Rattle.std.specs.Prelude.{◌≡◌, ◌+◌, ◌*◌, ◌%◌, ◌≤◌, length};
 ghost use Rattle.std.proofs.lemmas.List.Edits.{sets};
-ghost use Rattle.form.specs.Form.{form_of, frameStart};
+ghost use Rattle.form.specs.Form.{form_of, frame_start};
 ghost use Rattle.normal.specs.Words.{word_of};
-ghost use Rattle.normal.specs.WordBytes.{word_bytes, wordsBytes};
+ghost use Rattle.normal.specs.WordBytes.{word_bytes, words_bytes};
 
 use form::Form;
 
@@ -67,7 +67,7 @@ fn put_wide(out: &mut [u8], at: usize, word: u64)
 // The first frames as narrow ones.
 fn write_narrow(frames: &[u64], count: usize, out: &mut [u8])
     requires { (count ≤ length frames.now) × (count * 4 ≤ length out.old) }
-    ensures { out.new ≡ sets out.old 0 (wordsBytes Form.Narrow frames.now count) }
+    ensures { out.new ≡ sets out.old 0 (words_bytes Form.Narrow frames.now count) }
 {
     let mut k: usize = 0;
     while k < count {
@@ -79,7 +79,7 @@ fn write_narrow(frames: &[u64], count: usize, out: &mut [u8])
 // And as wide ones.
 fn write_wide(frames: &[u64], count: usize, out: &mut [u8])
     requires { (count ≤ length frames.now) × (count * 7 ≤ length out.old) }
-    ensures { out.new ≡ sets out.old 0 (wordsBytes Form.Wide frames.now count) }
+    ensures { out.new ≡ sets out.old 0 (words_bytes Form.Wide frames.now count) }
 {
     let mut k: usize = 0;
     while k < count {
@@ -90,8 +90,8 @@ fn write_wide(frames: &[u64], count: usize, out: &mut [u8])
 
 // Writes the first frames from the buffer's start, in the form's bytes.
 pub fn write_frames(frames: &[u64], count: usize, wide: bool, out: &mut [u8])
-    requires { (count ≤ length frames.now) × (frameStart (form_of wide) count ≤ length out.old) }
-    ensures { out.new ≡ sets out.old 0 (wordsBytes (form_of wide) frames.now count) }
+    requires { (count ≤ length frames.now) × (frame_start (form_of wide) count ≤ length out.old) }
+    ensures { out.new ≡ sets out.old 0 (words_bytes (form_of wide) frames.now count) }
 {
     if wide {
         write_wide(frames, count, out);

@@ -4,11 +4,11 @@ mod place;
 mod visit;
 
 ghost use Rattle.std.specs.Prelude.{◌≡◌, ℕ, ◌≤◌, ◌<◌, length, get_or};
-ghost use Rattle.form.specs.Form.{form_of, frameStart};
+ghost use Rattle.form.specs.Form.{form_of, frame_start};
 ghost use Rattle.sheet.specs.Fields as Sheets;
-ghost use Rattle.sheet.specs.Fields.{sheetOf, narrow, wide};
+ghost use Rattle.sheet.specs.Fields.{sheet_of, narrow, wide};
 ghost use Rattle.sheet.specs.Check.{Checks};
-ghost use Rattle.sheet.specs.Rules.{sheetCauses};
+ghost use Rattle.sheet.specs.Rules.{sheet_causes};
 ghost use Rattle.normal.specs.Normal.{Writes};
 ghost use Rattle.normal.specs.Visit.{none};
 
@@ -37,7 +37,7 @@ fn refused(number: u8, place: u16) -> Written
 // The bytes of so many frames.
 fn bytes_of(wide: bool, count: usize) -> usize
     requires { count ≤ 3000 }
-    ensures { result ≡ frameStart (form_of wide) count }
+    ensures { result ≡ frame_start (form_of wide) count }
 {
     if wide {
         return count * 7;
@@ -55,8 +55,8 @@ fn write_checked(
     stack: &mut [u16],
     out: &mut [u8],
 ) -> Written
-    requires { Checks (sheetCauses (sheetOf (form_of wide) sheet.now)) (sheetOf (form_of wide) sheet.now) checked.number checked.place checked.free checked.gauges × (Sheets.mostFrames (sheetOf (form_of wide) sheet.now) ≤ length frames.old) × (Sheets.mostFrames (sheetOf (form_of wide) sheet.now) ≤ length numbers.old) × (Sheets.mostFrames (sheetOf (form_of wide) sheet.now) ≤ length stack.old) × ((k : ℕ) → k < Sheets.mostFrames (sheetOf (form_of wide) sheet.now) → get_or numbers.old k 0 ≡ none) }
-    ensures { Writes (sheetOf (form_of wide) sheet.now) out.old out.new result.number result.place result.length }
+    requires { Checks (sheet_causes (sheet_of (form_of wide) sheet.now)) (sheet_of (form_of wide) sheet.now) checked.number checked.place checked.free checked.gauges × (Sheets.most_frames (sheet_of (form_of wide) sheet.now) ≤ length frames.old) × (Sheets.most_frames (sheet_of (form_of wide) sheet.now) ≤ length numbers.old) × (Sheets.most_frames (sheet_of (form_of wide) sheet.now) ≤ length stack.old) × ((k : ℕ) → k < Sheets.most_frames (sheet_of (form_of wide) sheet.now) → get_or numbers.old k 0 ≡ none) }
+    ensures { Writes (sheet_of (form_of wide) sheet.now) out.old out.new result.number result.place result.length }
 {
     if checked.number != 0 {
         return refused(checked.number, checked.place);

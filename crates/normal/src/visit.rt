@@ -3,12 +3,12 @@
 ghost use Rattle.std.specs.Prelude.{◌≡◌, ℕ, ◌-◌, ◌≤◌, ◌<◌, length, get_or, set};
 ghost use Rattle.form.specs.Form.{form_of};
 ghost use Rattle.sheet.specs.Fields as Sheets;
-ghost use Rattle.sheet.specs.Fields.{sheetOf};
+ghost use Rattle.sheet.specs.Fields.{sheet_of};
 ghost use Rattle.sheet.specs.Frames.{Fit};
 ghost use Rattle.sheet.specs.Keeps.{Keeps};
 ghost use Rattle.normal.specs.Normal.{fields_of};
 ghost use Rattle.normal.specs.Words.{word_of};
-ghost use Rattle.normal.specs.Visit.{unplacedOr, firstUnplaced, none, renamed, left, Visiting, Visited};
+ghost use Rattle.normal.specs.Visit.{unplaced_or, first_unplaced, none, renamed, left, Visiting, Visited};
 
 use crate::bytes::word;
 use crate::place::put;
@@ -29,7 +29,7 @@ fn number_at(numbers: &[u16], frame: u16) -> u16
 // The frame, unless it is placed; then the next one.
 fn unplaced_or(numbers: &[u16], frame: u16, next: u16) -> u16
     requires { frame < length numbers.now }
-    ensures { result ≡ unplacedOr numbers.now frame next }
+    ensures { result ≡ unplaced_or numbers.now frame next }
 {
     if number_at(numbers, frame) == NONE {
         return frame;
@@ -40,7 +40,7 @@ fn unplaced_or(numbers: &[u16], frame: u16, next: u16) -> u16
 // The first frame that a kind names and that is not placed; where all are, the frame itself.
 fn first_unplaced(kind: Kind, numbers: &[u16], own: u16) -> u16
     requires { Fit 64 (length numbers.now) kind }
-    ensures { result ≡ firstUnplaced numbers.now kind own }
+    ensures { result ≡ first_unplaced numbers.now kind own }
 {
     match kind {
         Kind::Never => own,
@@ -105,7 +105,7 @@ fn push(stack: &mut [u16], depth: usize, frame: u16)
 
 // What a frame of the sheet says.
 fn kind_at(sheet: &[u8], wide: bool, frame: u16) -> Kind
-    ensures { result ≡ Sheets.kind (sheetOf (form_of wide) sheet.now) frame }
+    ensures { result ≡ Sheets.kind (sheet_of (form_of wide) sheet.now) frame }
 {
     let number = frame as usize;
     let decoded = sheet::decode(sheet, form::of(wide), number);
@@ -121,8 +121,8 @@ fn turn(
     stack: &mut [u16],
     at: At,
 ) -> At
-    requires { Visiting (sheetOf (form_of wide) sheet.now) frames.old numbers.old stack.old at.count at.depth × (0 < at.depth) }
-    ensures { Visiting (sheetOf (form_of wide) sheet.now) frames.new numbers.new stack.new result.count result.depth × (left numbers.new (Sheets.frames (sheetOf (form_of wide) sheet.now)) result.depth < left numbers.old (Sheets.frames (sheetOf (form_of wide) sheet.now)) at.depth) }
+    requires { Visiting (sheet_of (form_of wide) sheet.now) frames.old numbers.old stack.old at.count at.depth × (0 < at.depth) }
+    ensures { Visiting (sheet_of (form_of wide) sheet.now) frames.new numbers.new stack.new result.count result.depth × (left numbers.new (Sheets.frames (sheet_of (form_of wide) sheet.now)) result.depth < left numbers.old (Sheets.frames (sheet_of (form_of wide) sheet.now)) at.depth) }
 {
     let depth = at.depth;
     let own = top_of(&stack[..], depth);
@@ -153,8 +153,8 @@ fn visit(
     stack: &mut [u16],
     from: At,
 ) -> usize
-    requires { Visiting (sheetOf (form_of wide) sheet.now) frames.old numbers.old stack.old from.count from.depth }
-    ensures { Visited (sheetOf (form_of wide) sheet.now) frames.new result }
+    requires { Visiting (sheet_of (form_of wide) sheet.now) frames.old numbers.old stack.old from.count from.depth }
+    ensures { Visited (sheet_of (form_of wide) sheet.now) frames.new result }
 {
     let mut at = from;
     while at.depth > 0 {
@@ -171,8 +171,8 @@ pub fn place_frames(
     numbers: &mut [u16],
     stack: &mut [u16],
 ) -> usize
-    requires { Keeps (sheetOf (form_of wide) sheet.now) × (Sheets.frames (sheetOf (form_of wide) sheet.now) ≤ length frames.old) × (Sheets.frames (sheetOf (form_of wide) sheet.now) ≤ length numbers.old) × (Sheets.frames (sheetOf (form_of wide) sheet.now) ≤ length stack.old) × ((k : ℕ) → k < Sheets.frames (sheetOf (form_of wide) sheet.now) → get_or numbers.old k 0 ≡ none) }
-    ensures { Visited (sheetOf (form_of wide) sheet.now) frames.new result }
+    requires { Keeps (sheet_of (form_of wide) sheet.now) × (Sheets.frames (sheet_of (form_of wide) sheet.now) ≤ length frames.old) × (Sheets.frames (sheet_of (form_of wide) sheet.now) ≤ length numbers.old) × (Sheets.frames (sheet_of (form_of wide) sheet.now) ≤ length stack.old) × ((k : ℕ) → k < Sheets.frames (sheet_of (form_of wide) sheet.now) → get_or numbers.old k 0 ≡ none) }
+    ensures { Visited (sheet_of (form_of wide) sheet.now) frames.new result }
 {
     let last = form::frames(form::of(wide), sheet.len()) - 1;
     push(stack, 0, last as u16);

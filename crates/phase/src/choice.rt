@@ -3,7 +3,7 @@
 // the net as it is: whoever searches tries the other value too.
 ghost use Rattle.std.specs.Prelude.{◌≡◌, true, false, ◌+◌, ◌*◌, ◌<◌, ◌≤◌, length};
 ghost use Rattle.words.specs.Word.{bit};
-ghost use Rattle.net.specs.Layout.{framesOf, freeOf, HasNode, Ground, Is};
+ghost use Rattle.net.specs.Layout.{frames_of, free_of, HasNode, Ground, Is};
 ghost use Rattle.net.specs.Link.{Linked};
 
 use net::links::READERS;
@@ -74,7 +74,7 @@ fn pass(net: &[u64], k: usize, weights: &mut [u64], uses: &mut [u64; 64])
 
 // How often each node and each variable is used by the last frame.
 fn weigh(net: &[u64], n: usize, weights: &mut [u64], uses: &mut [u64; 64])
-    requires { Ground net.now × (0 < n) × (n ≤ framesOf net.now) × (length net.now ≤ 67 + 2 * length weights.old) }
+    requires { Ground net.now × (0 < n) × (n ≤ frames_of net.now) × (length net.now ≤ 67 + 2 * length weights.old) }
 {
     weights[n - 1] = 1;
     let mut k = n;
@@ -139,7 +139,7 @@ fn choose_at(net: &mut [u64], k: usize, weight: u64, uses: &[u64; 64])
 
 // The variables of every quantifier, with scratch for the weights that is all 0.
 fn choose_in(net: &mut [u64], n: usize, weights: &mut [u64])
-    requires { Ground net.old × (0 < n) × (n ≤ framesOf net.old) × (length net.old ≤ 67 + 2 * length weights.old) }
+    requires { Ground net.old × (0 < n) × (n ≤ frames_of net.old) × (length net.old ≤ 67 + 2 * length weights.old) }
     ensures { Linked net.old net.new }
 {
     let mut uses = [0u64; 64];
@@ -152,7 +152,7 @@ fn choose_in(net: &mut [u64], n: usize, weights: &mut [u64])
 }
 
 fn choose_narrow(net: &mut [u64], n: usize)
-    requires { Ground net.old × (0 < n) × (n ≤ framesOf net.old) × (length net.old ≤ 473) }
+    requires { Ground net.old × (0 < n) × (n ≤ frames_of net.old) × (length net.old ≤ 473) }
     ensures { Linked net.old net.new }
 {
     let mut weights = [0u64; 203];
@@ -160,7 +160,7 @@ fn choose_narrow(net: &mut [u64], n: usize)
 }
 
 fn choose_wide(net: &mut [u64], n: usize)
-    requires { Ground net.old × (0 < n) × (n ≤ framesOf net.old) }
+    requires { Ground net.old × (0 < n) × (n ≤ frames_of net.old) }
     ensures { Linked net.old net.new }
 {
     let mut weights = [0u64; 4000];
@@ -169,7 +169,7 @@ fn choose_wide(net: &mut [u64], n: usize)
 
 // Whether one of the first n nodes is a quantifier.
 fn any_bound(net: &[u64], n: usize) -> bool
-    requires { Ground net.now × (n ≤ framesOf net.now) }
+    requires { Ground net.now × (n ≤ frames_of net.now) }
 {
     let mut k: usize = 0;
     while k < n {
@@ -203,7 +203,7 @@ pub fn choose_phases(net: &mut [u64])
 // Whether 1 is tried first. A free variable has 0 first, so that the first word found is the smallest.
 pub fn one_first(net: &[u64], x: u8) -> bool
     requires { (x < 64) × (67 < length net.now) }
-    ensures { result ≡ true → bit (freeOf net.now) x ≡ false }
+    ensures { result ≡ true → bit (free_of net.now) x ≡ false }
 {
     if w64::has(free(net), x) {
         return false;

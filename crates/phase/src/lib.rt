@@ -3,7 +3,7 @@ mod choice;
 
 ghost use Rattle.std.specs.Prelude.{◌≡◌};
 ghost use Rattle.form.specs.Form.{form_of};
-ghost use Rattle.sheet.specs.Fields.{sheetOf};
+ghost use Rattle.sheet.specs.Fields.{sheet_of};
 ghost use Rattle.sheet.specs.Rules as Rules;
 ghost use Rattle.net.specs.Sheet.{Checked, NetOf};
 ghost use Rattle.net.specs.Load.{Empty};
@@ -12,8 +12,8 @@ pub use choice::one_first;
 
 // The net of a sheet: decoded, rewritten, linked, and with phases.
 pub fn load(sheet: &[u8], wide: bool, free: u64, gauges: u64, net: &mut [u64])
-    requires { Checked (sheetOf (form_of wide) sheet.now) free × (gauges ≡ Rules.gauges (sheetOf (form_of wide) sheet.now)) × Empty (form_of wide) net.old }
-    ensures { NetOf (sheetOf (form_of wide) sheet.now) net.new }
+    requires { Checked (sheet_of (form_of wide) sheet.now) free × (gauges ≡ Rules.gauges (sheet_of (form_of wide) sheet.now)) × Empty (form_of wide) net.old }
+    ensures { NetOf (sheet_of (form_of wide) sheet.now) net.new }
 {
     net::load(sheet, wide, free, gauges, net);
     absorb::absorb(net);

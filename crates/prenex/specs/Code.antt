@@ -3,21 +3,21 @@ use Rattle.std.specs.Prelude.{ℕ, zero, suc, ◌+◌, ◌-◌, ◌*◌, ◌/◌
 use Rattle.words.specs.Word.{bit}
 use Rattle.sheet.specs.declared.Kind.{Kind}
 use Rattle.sheet.specs.declared.Kind.TheVariants.{Or}
-use Rattle.prenex.specs.Question.{Literal, Clause, someLiteral}
-use Rattle.prenex.specs.Kinds.{chain, chainEnd, clauseKinds, clauseEnds, runs, runKinds}
+use Rattle.prenex.specs.Question.{Literal, Clause, some_literal}
+use Rattle.prenex.specs.Kinds.{chain, chain_end, clause_kinds, clause_ends, runs, run_kinds}
 
 -- x is 2 x + 1, and its negation 2 x + 2
-unfoldable pub literalOf : ℕ → Literal
-literalOf c = record { negative = eqb ((c - 1) % 2) 1; variable = (c - 1) / 2 }
+unfoldable pub literal_of : ℕ → Literal
+literal_of c = record { negative = eqb ((c - 1) % 2) 1; variable = (c - 1) / 2 }
 
 -- a literal more in front of the first clause
-unfoldable pub toFirst : Literal → List Clause → List Clause
-toFirst l [] = (l ∷ []) ∷ []
-toFirst l (c ∷ cs) = (l ∷ c) ∷ cs
+unfoldable pub to_first : Literal → List Clause → List Clause
+to_first l [] = (l ∷ []) ∷ []
+to_first l (c ∷ cs) = (l ∷ c) ∷ cs
 
-unfoldable pub clausesOf : List ℕ → List Clause
-clausesOf [] = []
-clausesOf (c ∷ cs) = cond (eqb c 0) ([] ∷ clausesOf cs) (toFirst (literalOf c) (clausesOf cs))
+unfoldable pub clauses_of : List ℕ → List Clause
+clauses_of [] = []
+clauses_of (c ∷ cs) = cond (eqb c 0) ([] ∷ clauses_of cs) (to_first (literal_of c) (clauses_of cs))
 
 -- ---- the codes of clauses
 
@@ -43,26 +43,26 @@ even zero = true
 even (suc n) = not (even n)
 
 -- the quantifiers of the blocks from frame n on: the last word is the innermost block, an exists, and each other one is of the other kind than the next
-unfoldable pub wordKinds : List ℕ → ℕ → List Kind
-wordKinds [] n = []
-wordKinds (m ∷ ms) n = wordKinds ms n ++ runKinds (even (length ms)) (runs (bit m)) (n + length (wordKinds ms n))
+unfoldable pub word_kinds : List ℕ → ℕ → List Kind
+word_kinds [] n = []
+word_kinds (m ∷ ms) n = word_kinds ms n ++ run_kinds (even (length ms)) (runs (bit m)) (n + length (word_kinds ms n))
 
 -- ---- what is left of the clauses within one, whose chain has come to frame a
 
-unfoldable pub kindsWithin : (Literal → ℕ) → ℕ → List Clause → ℕ → List Kind
-kindsWithin f a [] n = []
-kindsWithin f a (c ∷ cs) n = chain Or a (map f c) n ++ clauseKinds f cs (n + length c)
+unfoldable pub kinds_within : (Literal → ℕ) → ℕ → List Clause → ℕ → List Kind
+kinds_within f a [] n = []
+kinds_within f a (c ∷ cs) n = chain Or a (map f c) n ++ clause_kinds f cs (n + length c)
 
-unfoldable pub endsWithin : (Literal → ℕ) → ℕ → List Clause → ℕ → List ℕ
-endsWithin f a [] n = []
-endsWithin f a (c ∷ cs) n = chainEnd a (map f c) n ∷ clauseEnds f cs (n + length c)
+unfoldable pub ends_within : (Literal → ℕ) → ℕ → List Clause → ℕ → List ℕ
+ends_within f a [] n = []
+ends_within f a (c ∷ cs) n = chain_end a (map f c) n ∷ clause_ends f cs (n + length c)
 
 -- ---- clauses that are always true
 
 -- the clause has a literal and its opposite
 unfoldable pub opposed : Clause → Bool
-opposed c = someLiteral (λ l. l.negative && someLiteral (λ k. not k.negative && eqb l.variable k.variable) c) c
+opposed c = some_literal (λ l. l.negative && some_literal (λ k. not k.negative && eqb l.variable k.variable) c) c
 
-unfoldable pub allOpposed : List Clause → Bool
-allOpposed [] = true
-allOpposed (c ∷ cs) = opposed c && allOpposed cs
+unfoldable pub all_opposed : List Clause → Bool
+all_opposed [] = true
+all_opposed (c ∷ cs) = opposed c && all_opposed cs

@@ -6,51 +6,51 @@ use Rattle.std.proofs.lemmas.List.{length-map}
 use Rattle.words.specs.Logic.{by_bool}
 use Rattle.words.specs.Word.{bit}
 use Rattle.prenex.specs.Question.{Literal, Block, Clause, member, Every, every-none, every_one, SomeBelow, Alternating, no_block, innermost, outer}
-use Rattle.prenex.specs.Kinds.{blockKinds}
-use Rattle.prenex.specs.Code.{literalOf, toFirst, clausesOf, code_of, codes_of, literals, Codes, even, wordKinds}
+use Rattle.prenex.specs.Kinds.{block_kinds}
+use Rattle.prenex.specs.Code.{literal_of, to_first, clauses_of, code_of, codes_of, literals, Codes, even, word_kinds}
 
 -- ---- a literal and its code
 
-literal-code-by : (n : Bool) (x : ℕ) → literalOf (code_of (record { negative = n; variable = x })) ≡ record { negative = n; variable = x }
-unfolding literalOf code_of
-literal-code-by true x =
+literal_code_by : (n : Bool) (x : ℕ) → literal_of (code_of (record { negative = n; variable = x })) ≡ record { negative = n; variable = x }
+unfolding literal_of code_of
+literal_code_by true x =
     let odd : (2 * x + 2 - 1) % 2 ≡ 1 = omega arith in
     let half : (2 * x + 2 - 1) / 2 ≡ x = omega arith in
     rw (odd, half)
-literal-code-by false x =
+literal_code_by false x =
     let even : (2 * x + 1 - 1) % 2 ≡ 0 = omega arith in
     let half : (2 * x + 1 - 1) / 2 ≡ x = omega arith in
     rw (even, half)
 
-pub literal-code : (l : Literal) → literalOf (code_of l) ≡ l
-literal-code l = literal-code-by l.negative l.variable
+pub literal_code : (l : Literal) → literal_of (code_of l) ≡ l
+literal_code l = literal_code_by l.negative l.variable
 
 -- only the end of a clause is 0
-pub code-some : (l : Literal) → 1 ≤ code_of l
+pub code_some : (l : Literal) → 1 ≤ code_of l
 unfolding code_of
-code-some l = by_bool l.negative (λ e. rw e (omega arith)) (λ e. rw e (omega arith))
+code_some l = by_bool l.negative (λ e. rw e (omega arith)) (λ e. rw e (omega arith))
 
-pub code-most : (l : Literal) → l.variable < 32 → code_of l ≤ 64
+pub code_most : (l : Literal) → l.variable < 32 → code_of l ≤ 64
 unfolding code_of
-code-most l h = by_bool l.negative (λ e. rw e (omega (arith, h))) (λ e. rw e (omega (arith, h)))
+code_most l h = by_bool l.negative (λ e. rw e (omega (arith, h))) (λ e. rw e (omega (arith, h)))
 
 -- ---- the clauses of the codes
 
-clause-codes : (c : Clause) (r : List ℕ) → clausesOf (map code_of c ++ 0 ∷ r) ≡ c ∷ clausesOf r
-unfolding clausesOf toFirst
-clause-codes [] r = refl
-clause-codes (l ∷ c) r = rw (ne_eqb (code_of l) 0 (omega (arith, code-some l)), literal-code l, clause-codes c r)
+clause_codes : (c : Clause) (r : List ℕ) → clauses_of (map code_of c ++ 0 ∷ r) ≡ c ∷ clauses_of r
+unfolding clauses_of to_first
+clause_codes [] r = refl
+clause_codes (l ∷ c) r = rw (ne_eqb (code_of l) 0 (omega (arith, code_some l)), literal_code l, clause_codes c r)
 
-pub clauses-codes : (cs : List Clause) → clausesOf (codes_of cs) ≡ cs
-unfolding codes_of clausesOf
-clauses-codes [] = refl
-clauses-codes (c ∷ cs) = clause-codes c (codes_of cs) ∙ ap (λ (r : List Clause). c ∷ r) (clauses-codes cs)
+pub clauses_codes : (cs : List Clause) → clauses_of (codes_of cs) ≡ cs
+unfolding codes_of clauses_of
+clauses_codes [] = refl
+clauses_codes (c ∷ cs) = clause_codes c (codes_of cs) ∙ ap (λ (r : List Clause). c ∷ r) (clauses_codes cs)
 
 -- ---- they are codes
 
 -- one code more in front; a literal does not stand last
-codes-one : (k : ℕ) (r : List ℕ) → k ≤ 64 → (0 < k → 1 ≤ length r) → Codes r → Codes (k ∷ r)
-codes-one k r le more C = record { below = at_most; ended = behind }
+codes_one : (k : ℕ) (r : List ℕ) → k ≤ 64 → (0 < k → 1 ≤ length r) → Codes r → Codes (k ∷ r)
+codes_one k r le more C = record { below = at_most; ended = behind }
   where
     at_most : (i : ℕ) → get_or (k ∷ r) i 0 ≤ 64
     at_most zero = le
@@ -60,28 +60,28 @@ codes-one k r le more C = record { below = at_most; ended = behind }
     behind zero h = omega (arith, more h)
     behind (suc i) h = omega (arith, C.ended i h)
 
-codes-none : Codes []
-codes-none = record { below = λ i. omega arith; ended = λ i h. absurd (omega (arith, h)) }
+codes_none : Codes []
+codes_none = record { below = λ i. omega arith; ended = λ i h. absurd (omega (arith, h)) }
 
 -- a clause's end stands behind its literals
 end-behind : (c : Clause) (r : List ℕ) → 1 ≤ length (map code_of c ++ 0 ∷ r)
 end-behind c r = rw (length-append (map code_of c) (0 ∷ r)) (omega arith)
 
-clause-are : (c : Clause) (r : List ℕ) → Every (λ (l : Literal). l.variable < 32) c → Codes r → Codes (map code_of c ++ 0 ∷ r)
-clause-are c r every-none C = codes-one 0 r (omega arith) (λ h. absurd (omega (arith, h))) C
-clause-are c r (every_one {a = l} {l = ls} h t) C = codes-one (code_of l) (map code_of ls ++ 0 ∷ r) (code-most l h) (λ _. end-behind ls r) (clause-are ls r t C)
+clause_are : (c : Clause) (r : List ℕ) → Every (λ (l : Literal). l.variable < 32) c → Codes r → Codes (map code_of c ++ 0 ∷ r)
+clause_are c r every-none C = codes_one 0 r (omega arith) (λ h. absurd (omega (arith, h))) C
+clause_are c r (every_one {a = l} {l = ls} h t) C = codes_one (code_of l) (map code_of ls ++ 0 ∷ r) (code_most l h) (λ _. end-behind ls r) (clause_are ls r t C)
 
-pub codes-are : (cs : List Clause) → Every (SomeBelow (λ (l : Literal). l.variable) 32) cs → Codes (codes_of cs)
+pub codes_are : (cs : List Clause) → Every (SomeBelow (λ (l : Literal). l.variable) 32) cs → Codes (codes_of cs)
 unfolding codes_of
-codes-are cs every-none = codes-none
-codes-are cs (every_one {a = c} {l = ds} h t) = clause-are c (codes_of ds) h.below (codes-are ds t)
+codes_are cs every-none = codes_none
+codes_are cs (every_one {a = c} {l = ds} h t) = clause_are c (codes_of ds) h.below (codes_are ds t)
 
 -- ---- how many they are
 
-pub codes-length : (cs : List Clause) → length (codes_of cs) ≡ literals cs + length cs
+pub codes_length : (cs : List Clause) → length (codes_of cs) ≡ literals cs + length cs
 unfolding codes_of literals
-codes-length [] = refl
-codes-length (c ∷ cs) = length-append (map code_of c) (0 ∷ codes_of cs) ∙ omega (arith, length-map c code_of, codes-length cs)
+codes_length [] = refl
+codes_length (c ∷ cs) = length-append (map code_of c) (0 ∷ codes_of cs) ∙ omega (arith, length-map c code_of, codes_length cs)
 
 pub clauses-literals : (cs : List Clause) → Every (λ (c : Clause). 1 ≤ length c) cs → length cs ≤ literals cs
 unfolding literals
@@ -92,12 +92,12 @@ clauses-literals cs (every_one {a = c} {l = ds} h t) = omega (arith, h, clauses-
 
 -- word by word: the bits of a word are the atoms of its block
 pub data Words : List ℕ → List Block → Type 0 where
-  words-none : Words [] []
-  words-one : {m : ℕ} {b : Block} {ms : List ℕ} {bs : List Block} → ((x : ℕ) → bit m x ≡ member b.atoms x) → Words ms bs → Words (m ∷ ms) (b ∷ bs)
+  words_none : Words [] []
+  words_one : {m : ℕ} {b : Block} {ms : List ℕ} {bs : List Block} → ((x : ℕ) → bit m x ≡ member b.atoms x) → Words ms bs → Words (m ∷ ms) (b ∷ bs)
 
-pub words-length : {ms : List ℕ} {bs : List Block} → Words ms bs → length ms ≡ length bs
-words-length words-none = refl
-words-length (words-one e w) = ap suc (words-length w)
+pub words_length : {ms : List ℕ} {bs : List Block} → Words ms bs → length ms ≡ length bs
+words_length words_none = refl
+words_length (words_one e w) = ap suc (words_length w)
 
 pub alternating-inside : {b : Block} {bs : List Block} → Alternating (b ∷ bs) → Alternating bs
 alternating-inside (innermost e) = no_block
@@ -109,8 +109,8 @@ unfolding even
 alternating-even b bs (innermost e) = e
 alternating-even b bs (outer {c = c} {bs = ds} e a) = e ∙ ap not (alternating-even c ds a)
 
-pub words-kinds : {ms : List ℕ} {bs : List Block} → Alternating bs → Words ms bs → (n : ℕ) → wordKinds ms n ≡ blockKinds bs n
-unfolding wordKinds blockKinds
-words-kinds a words-none n = refl
-words-kinds a (words-one {b = b} {bs = bs} e w) n =
-    rw (words-kinds (alternating-inside a) w n, words-length w, ← alternating-even b bs a, fun_ext e)
+pub words_kinds : {ms : List ℕ} {bs : List Block} → Alternating bs → Words ms bs → (n : ℕ) → word_kinds ms n ≡ block_kinds bs n
+unfolding word_kinds block_kinds
+words_kinds a words_none n = refl
+words_kinds a (words_one {b = b} {bs = bs} e w) n =
+    rw (words_kinds (alternating-inside a) w n, words_length w, ← alternating-even b bs a, fun_ext e)

@@ -4,12 +4,12 @@ use Rattle.std.proofs.Common.{arith}
 use Rattle.words.specs.Word.{bit}
 use Rattle.formula.specs.Assignment.{Assignment, assign, join, none, only}
 use Rattle.sheet.specs.declared.Kind.TheVariants.{Input, Not, And, Or, Exists, Forall}
-use Rattle.prenex.specs.Question.{Literal, Question, clauseTruth, matrixTruth, overAtoms, underBlocks, questionTruth}
-use Rattle.prenex.specs.Question.{someLiteral, someClause, occurs, negated, member, allAtoms, every-none, every_one, distinct_none, distinct-one}
+use Rattle.prenex.specs.Question.{Literal, Question, clause_truth, matrix_truth, over_atoms, under_blocks, question_truth}
+use Rattle.prenex.specs.Question.{some_literal, some_clause, occurs, negated, member, all_atoms, every-none, every_one, distinct_none, distinct_one}
 use Rattle.prenex.specs.Question.{SomeBelow, innermost, outer, Proper, Contingent}
-use Rattle.prenex.specs.Kinds.{having, count, chain, chainEnd, inputKinds, inputFrame, negationKinds, inputs, negations, frameBy, clauseKinds, clauseEnds}
-use Rattle.prenex.specs.Kinds.{conjunctionKinds, literalKinds, disjunctionKinds, matrixKinds, runsFrom, runs, runKinds, blockKinds, kinds, frameBytes, sheetBytes, sheetOf}
-use Rattle.prenex.specs.Code.{literalOf, toFirst, clausesOf, code_of, codes_of, even, wordKinds, opposed, allOpposed}
+use Rattle.prenex.specs.Kinds.{having, count, chain, chain_end, input_kinds, input_frame, negation_kinds, inputs, negations, frame_by, clause_kinds, clause_ends}
+use Rattle.prenex.specs.Kinds.{conjunction_kinds, literal_kinds, disjunction_kinds, matrix_kinds, runs_from, runs, run_kinds, block_kinds, kinds, frame_bytes, sheet_bytes, sheet_of}
+use Rattle.prenex.specs.Code.{literal_of, to_first, clauses_of, code_of, codes_of, even, word_kinds, opposed, all_opposed}
 
 -- x, and its negation
 abbrev pos : ℕ → Literal
@@ -38,7 +38,7 @@ longer : {A : Type 0} (f : A → ℕ) (a : A) {l : List A} → f a < 3 → SomeB
 longer f a h s = record { some = omega arith; below = every_one h s.below }
 
 pub worked-proper : Proper worked
-unfolding occurs someClause someLiteral member allAtoms
+unfolding occurs some_clause some_literal member all_atoms
 worked-proper = record {
   some-clause = omega arith;
   clauses-below =
@@ -46,7 +46,7 @@ worked-proper = record {
       (every_one (longer _ (pos 1) (omega arith) (longer _ (pos 2) (omega arith) (short _ (neg 0) (omega arith)))) every-none);
   blocks-below = every_one (short _ 0 (omega arith)) (every_one (longer _ 1 (omega arith) (short _ 2 (omega arith))) every-none);
   alternating = outer refl (innermost refl);
-  once = distinct-one refl (distinct-one refl (distinct-one refl distinct_none));
+  once = distinct_one refl (distinct_one refl (distinct_one refl distinct_none));
   occurring = every_one refl (every_one refl (every_one refl every-none));
 }
 
@@ -54,37 +54,37 @@ worked-proper = record {
 pub worked-kinds :
     kinds worked
     ≡ Input 0 ∷ Input 1 ∷ Input 2 ∷ Not 0 ∷ Not 1 ∷ Or 0 4 ∷ Or 1 2 ∷ Or 6 3 ∷ And 5 7 ∷ Exists 8 1 2 ∷ Forall 9 0 1 ∷ []
-unfolding kinds matrixKinds literalKinds disjunctionKinds inputKinds negationKinds inputFrame inputs negations having count frameBy clauseKinds clauseEnds chain chainEnd conjunctionKinds blockKinds runKinds runs runsFrom occurs negated someClause someLiteral member
+unfolding kinds matrix_kinds literal_kinds disjunction_kinds input_kinds negation_kinds input_frame inputs negations having count frame_by clause_kinds clause_ends chain chain_end conjunction_kinds block_kinds run_kinds runs runs_from occurs negated some_clause some_literal member
 worked-kinds = refl
 
 pub worked-sheet :
-    sheetOf worked
+    sheet_of worked
     ≡ 1 ∷ 0 ∷ 0 ∷ 0 ∷ 1 ∷ 1 ∷ 0 ∷ 0 ∷ 1 ∷ 2 ∷ 0 ∷ 0 ∷ 2 ∷ 0 ∷ 0 ∷ 0 ∷ 2 ∷ 1 ∷ 0 ∷ 0 ∷ 4 ∷ 0 ∷ 4 ∷ 0
     ∷ 4 ∷ 1 ∷ 2 ∷ 0 ∷ 4 ∷ 6 ∷ 3 ∷ 0 ∷ 3 ∷ 5 ∷ 7 ∷ 0 ∷ 5 ∷ 8 ∷ 1 ∷ 2 ∷ 6 ∷ 9 ∷ 0 ∷ 1 ∷ []
-unfolding sheetOf sheetBytes frameBytes
+unfolding sheet_of sheet_bytes frame_bytes
 worked-sheet = rw worked-kinds
 
 -- the two arrays: clauses, and blocks as words
-pub worked-codes : codes_of worked.clauses ≡ 1 ∷ 4 ∷ 0 ∷ 3 ∷ 5 ∷ 2 ∷ 0 ∷ []
+pub worked_codes : codes_of worked.clauses ≡ 1 ∷ 4 ∷ 0 ∷ 3 ∷ 5 ∷ 2 ∷ 0 ∷ []
 unfolding codes_of code_of
-worked-codes = refl
+worked_codes = refl
 
-pub worked-clauses : clausesOf (1 ∷ 4 ∷ 0 ∷ 3 ∷ 5 ∷ 2 ∷ 0 ∷ []) ≡ worked.clauses
-unfolding clausesOf toFirst literalOf
+pub worked-clauses : clauses_of (1 ∷ 4 ∷ 0 ∷ 3 ∷ 5 ∷ 2 ∷ 0 ∷ []) ≡ worked.clauses
+unfolding clauses_of to_first literal_of
 worked-clauses = refl
 
-pub worked-words : wordKinds (1 ∷ 6 ∷ []) 9 ≡ Exists 8 1 2 ∷ Forall 9 0 1 ∷ []
-unfolding wordKinds even runKinds runs runsFrom bit
-worked-words = refl
+pub worked_words : word_kinds (1 ∷ 6 ∷ []) 9 ≡ Exists 8 1 2 ∷ Forall 9 0 1 ∷ []
+unfolding word_kinds even run_kinds runs runs_from bit
+worked_words = refl
 
 -- no variable is open, so it has one truth; its matrix is true where no variable is, and false where 1 alone is
-pub worked-truth : ((σ : Assignment) → questionTruth worked σ ≡ true) × (matrixTruth worked.clauses none ≡ true) × (matrixTruth worked.clauses (only 1) ≡ false)
-unfolding questionTruth underBlocks overAtoms matrixTruth clauseTruth join assign
+pub worked-truth : ((σ : Assignment) → question_truth worked σ ≡ true) × (matrix_truth worked.clauses none ≡ true) × (matrix_truth worked.clauses (only 1) ≡ false)
+unfolding question_truth under_blocks over_atoms matrix_truth clause_truth join assign
 worked-truth = (λ σ. refl, refl, refl)
 
-pub worked-contingent : Contingent worked.clauses
-worked-contingent = record { makes-true = (none, worked-truth.1); makes-false = (only 1, worked-truth.2) }
+pub worked_contingent : Contingent worked.clauses
+worked_contingent = record { makes_true = (none, worked-truth.1); makes_false = (only 1, worked-truth.2) }
 
-pub worked-unopposed : allOpposed worked.clauses ≡ false
-unfolding allOpposed opposed someLiteral
-worked-unopposed = refl
+pub worked_unopposed : all_opposed worked.clauses ≡ false
+unfolding all_opposed opposed some_literal
+worked_unopposed = refl

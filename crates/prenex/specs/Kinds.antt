@@ -10,8 +10,8 @@ use Rattle.prenex.specs.Question.{Literal, Block, Clause, Question, occurs, nega
 abbrev pub variables : ℕ
 variables = Sizes.variables Narrow
 
-abbrev pub mostFrames : ℕ
-mostFrames = Sizes.mostFrames Narrow
+abbrev pub most_frames : ℕ
+most_frames = Sizes.most_frames Narrow
 
 -- ---- numbers with a property, among the n from x on
 
@@ -30,22 +30,22 @@ chain K a [] n = []
 chain K a (b ∷ bs) n = K a b ∷ chain K n bs (suc n)
 
 -- the frame that a chain ends with
-unfoldable pub chainEnd : ℕ → List ℕ → ℕ → ℕ
-chainEnd a [] n = a
-chainEnd a (b ∷ bs) n = chainEnd n bs (suc n)
+unfoldable pub chain_end : ℕ → List ℕ → ℕ → ℕ
+chain_end a [] n = a
+chain_end a (b ∷ bs) n = chain_end n bs (suc n)
 
 -- ---- literals
 
 -- the inputs come first, then the negations, each ascending
-unfoldable pub inputKinds : List Clause → List Kind
-inputKinds cs = map Input (having (occurs cs) 0 variables)
+unfoldable pub input_kinds : List Clause → List Kind
+input_kinds cs = map Input (having (occurs cs) 0 variables)
 
 -- the frame of x's input
-unfoldable pub inputFrame : List Clause → ℕ → ℕ
-inputFrame cs x = count (occurs cs) 0 x
+unfoldable pub input_frame : List Clause → ℕ → ℕ
+input_frame cs x = count (occurs cs) 0 x
 
-unfoldable pub negationKinds : List Clause → List Kind
-negationKinds cs = map (λ x. Not (inputFrame cs x)) (having (negated cs) 0 variables)
+unfoldable pub negation_kinds : List Clause → List Kind
+negation_kinds cs = map (λ x. Not (input_frame cs x)) (having (negated cs) 0 variables)
 
 unfoldable pub inputs : List Clause → ℕ
 inputs cs = count (occurs cs) 0 variables
@@ -54,42 +54,42 @@ unfoldable pub negations : List Clause → ℕ
 negations cs = count (negated cs) 0 variables
 
 -- the frame of a literal, where p are the variables with an input and q those with a negation
-unfoldable pub frameBy : (ℕ → Bool) → (ℕ → Bool) → Literal → ℕ
-frameBy p q l = cond l.negative (count p 0 variables + count q 0 l.variable) (count p 0 l.variable)
+unfoldable pub frame_by : (ℕ → Bool) → (ℕ → Bool) → Literal → ℕ
+frame_by p q l = cond l.negative (count p 0 variables + count q 0 l.variable) (count p 0 l.variable)
 
-abbrev pub literalFrame : List Clause → Literal → ℕ
-literalFrame cs = frameBy (occurs cs) (negated cs)
+abbrev pub literal_frame : List Clause → Literal → ℕ
+literal_frame cs = frame_by (occurs cs) (negated cs)
 
 -- ---- clauses, with f for the frames of literals
 
 -- a clause: its first literal and the others
-unfoldable pub clauseKinds : (Literal → ℕ) → List Clause → ℕ → List Kind
-clauseKinds f [] n = []
-clauseKinds f ([] ∷ cs) n = clauseKinds f cs n
-clauseKinds f ((l ∷ ls) ∷ cs) n = chain Or (f l) (map f ls) n ++ clauseKinds f cs (n + length ls)
+unfoldable pub clause_kinds : (Literal → ℕ) → List Clause → ℕ → List Kind
+clause_kinds f [] n = []
+clause_kinds f ([] ∷ cs) n = clause_kinds f cs n
+clause_kinds f ((l ∷ ls) ∷ cs) n = chain Or (f l) (map f ls) n ++ clause_kinds f cs (n + length ls)
 
 -- the frames that the clauses end with
-unfoldable pub clauseEnds : (Literal → ℕ) → List Clause → ℕ → List ℕ
-clauseEnds f [] n = []
-clauseEnds f ([] ∷ cs) n = clauseEnds f cs n
-clauseEnds f ((l ∷ ls) ∷ cs) n = chainEnd (f l) (map f ls) n ∷ clauseEnds f cs (n + length ls)
+unfoldable pub clause_ends : (Literal → ℕ) → List Clause → ℕ → List ℕ
+clause_ends f [] n = []
+clause_ends f ([] ∷ cs) n = clause_ends f cs n
+clause_ends f ((l ∷ ls) ∷ cs) n = chain_end (f l) (map f ls) n ∷ clause_ends f cs (n + length ls)
 
-unfoldable pub conjunctionKinds : List ℕ → ℕ → List Kind
-conjunctionKinds [] n = []
-conjunctionKinds (a ∷ others) n = chain And a others n
+unfoldable pub conjunction_kinds : List ℕ → ℕ → List Kind
+conjunction_kinds [] n = []
+conjunction_kinds (a ∷ others) n = chain And a others n
 
 -- ---- the matrix
 
-unfoldable pub literalKinds : List Clause → List Kind
-literalKinds cs = inputKinds cs ++ negationKinds cs
+unfoldable pub literal_kinds : List Clause → List Kind
+literal_kinds cs = input_kinds cs ++ negation_kinds cs
 
-unfoldable pub disjunctionKinds : List Clause → List Kind
-disjunctionKinds cs = clauseKinds (literalFrame cs) cs (inputs cs + negations cs)
+unfoldable pub disjunction_kinds : List Clause → List Kind
+disjunction_kinds cs = clause_kinds (literal_frame cs) cs (inputs cs + negations cs)
 
-unfoldable pub matrixKinds : List Clause → List Kind
-matrixKinds cs =
-    let clauses = literalKinds cs ++ disjunctionKinds cs in
-    clauses ++ conjunctionKinds (clauseEnds (literalFrame cs) cs (inputs cs + negations cs)) (length clauses)
+unfoldable pub matrix_kinds : List Clause → List Kind
+matrix_kinds cs =
+    let clauses = literal_kinds cs ++ disjunction_kinds cs in
+    clauses ++ conjunction_kinds (clause_ends (literal_frame cs) cs (inputs cs + negations cs)) (length clauses)
 
 -- ---- quantifiers
 
@@ -103,44 +103,44 @@ abbrev pub ended : ℕ → ℕ → List Run
 ended x c = cond (eqb c 0) [] (record { first = x - c; size = c } ∷ [])
 
 -- the longest runs of variables with p among the n from x on, ascending; c variables right before x belong to the first
-unfoldable pub runsFrom : (ℕ → Bool) → ℕ → ℕ → ℕ → List Run
-runsFrom p x c zero = ended x c
-runsFrom p x c (suc n) = cond (p x) (runsFrom p (suc x) (suc c) n) (ended x c ++ runsFrom p (suc x) 0 n)
+unfoldable pub runs_from : (ℕ → Bool) → ℕ → ℕ → ℕ → List Run
+runs_from p x c zero = ended x c
+runs_from p x c (suc n) = cond (p x) (runs_from p (suc x) (suc c) n) (ended x c ++ runs_from p (suc x) 0 n)
 
 unfoldable pub runs : (ℕ → Bool) → List Run
-runs p = runsFrom p 0 0 variables
+runs p = runs_from p 0 0 variables
 
 abbrev pub quantifier : Bool → ℕ → ℕ → ℕ → Kind
 quantifier d a b c = cond d (Exists a b c) (Forall a b c)
 
 -- from frame n on, each over the frame before it
-unfoldable pub runKinds : Bool → List Run → ℕ → List Kind
-runKinds d [] n = []
-runKinds d (r ∷ rs) n = quantifier d (n - 1) r.first r.size ∷ runKinds d rs (suc n)
+unfoldable pub run_kinds : Bool → List Run → ℕ → List Kind
+run_kinds d [] n = []
+run_kinds d (r ∷ rs) n = quantifier d (n - 1) r.first r.size ∷ run_kinds d rs (suc n)
 
 -- the innermost block first
-unfoldable pub blockKinds : List Block → ℕ → List Kind
-blockKinds [] n = []
-blockKinds (b ∷ bs) n = blockKinds bs n ++ runKinds b.exists (runs (member b.atoms)) (n + length (blockKinds bs n))
+unfoldable pub block_kinds : List Block → ℕ → List Kind
+block_kinds [] n = []
+block_kinds (b ∷ bs) n = block_kinds bs n ++ run_kinds b.exists (runs (member b.atoms)) (n + length (block_kinds bs n))
 
 unfoldable pub kinds : Question → List Kind
-kinds q = matrixKinds q.clauses ++ blockKinds q.blocks (length (matrixKinds q.clauses))
+kinds q = matrix_kinds q.clauses ++ block_kinds q.blocks (length (matrix_kinds q.clauses))
 
 -- ---- the bytes
 
-unfoldable pub frameBytes : Kind → List ℕ
-frameBytes Never = 0 ∷ 0 ∷ 0 ∷ 0 ∷ []
-frameBytes (Input x) = 1 ∷ x ∷ 0 ∷ 0 ∷ []
-frameBytes (Not a) = 2 ∷ a ∷ 0 ∷ 0 ∷ []
-frameBytes (And a b) = 3 ∷ a ∷ b ∷ 0 ∷ []
-frameBytes (Or a b) = 4 ∷ a ∷ b ∷ 0 ∷ []
-frameBytes (Exists a b c) = 5 ∷ a ∷ b ∷ c ∷ []
-frameBytes (Forall a b c) = 6 ∷ a ∷ b ∷ c ∷ []
-frameBytes (Gauge x) = 7 ∷ x ∷ 0 ∷ 0 ∷ []
+unfoldable pub frame_bytes : Kind → List ℕ
+frame_bytes Never = 0 ∷ 0 ∷ 0 ∷ 0 ∷ []
+frame_bytes (Input x) = 1 ∷ x ∷ 0 ∷ 0 ∷ []
+frame_bytes (Not a) = 2 ∷ a ∷ 0 ∷ 0 ∷ []
+frame_bytes (And a b) = 3 ∷ a ∷ b ∷ 0 ∷ []
+frame_bytes (Or a b) = 4 ∷ a ∷ b ∷ 0 ∷ []
+frame_bytes (Exists a b c) = 5 ∷ a ∷ b ∷ c ∷ []
+frame_bytes (Forall a b c) = 6 ∷ a ∷ b ∷ c ∷ []
+frame_bytes (Gauge x) = 7 ∷ x ∷ 0 ∷ 0 ∷ []
 
-unfoldable pub sheetBytes : List Kind → List ℕ
-sheetBytes [] = []
-sheetBytes (k ∷ ks) = frameBytes k ++ sheetBytes ks
+unfoldable pub sheet_bytes : List Kind → List ℕ
+sheet_bytes [] = []
+sheet_bytes (k ∷ ks) = frame_bytes k ++ sheet_bytes ks
 
-unfoldable pub sheetOf : Question → List ℕ
-sheetOf q = sheetBytes (kinds q)
+unfoldable pub sheet_of : Question → List ℕ
+sheet_of q = sheet_bytes (kinds q)

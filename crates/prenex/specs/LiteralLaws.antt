@@ -11,23 +11,23 @@ use Rattle.std.proofs.Math.Seq.{length-sets}
 use Rattle.words.specs.Word.{bit, bit-or, bit-pow, bit-none}
 use Rattle.sheet.specs.declared.Kind.{Kind}
 use Rattle.prenex.specs.declared.literal.Occurring.{Occurring}
-use Rattle.prenex.specs.Question.{Literal, Clause, someLiteral, someClause, occurs, negated}
-use Rattle.prenex.specs.Kinds.{variables, having, count, frameBytes, sheetBytes}
-use Rattle.prenex.specs.Code.{literalOf, toFirst, clausesOf}
+use Rattle.prenex.specs.Question.{Literal, Clause, some_literal, some_clause, occurs, negated}
+use Rattle.prenex.specs.Kinds.{variables, having, count, frame_bytes, sheet_bytes}
+use Rattle.prenex.specs.Code.{literal_of, to_first, clauses_of}
 use Rattle.prenex.specs.Writing.{With}
-use Rattle.prenex.specs.StoreLaws.{store-frame, sheet-none}
+use Rattle.prenex.specs.StoreLaws.{store_frame, sheet-none}
 
 -- ---- codes
 
-pub variable-is : (c : ℕ) → (literalOf c).variable ≡ (c - 1) / 2
-unfolding literalOf
+pub variable-is : (c : ℕ) → (literal_of c).variable ≡ (c - 1) / 2
+unfolding literal_of
 variable-is c = refl
 
-pub negative-is : (c : ℕ) → (literalOf c).negative ≡ eqb ((c - 1) % 2) 1
-unfolding literalOf
+pub negative-is : (c : ℕ) → (literal_of c).negative ≡ eqb ((c - 1) % 2) 1
+unfolding literal_of
 negative-is c = refl
 
-pub variable-below : (c v : ℕ) → c ≤ 64 → v ≡ (literalOf c).variable → v < 32
+pub variable-below : (c v : ℕ) → c ≤ 64 → v ≡ (literal_of c).variable → v < 32
 variable-below c v h e = omega (arith, variable-is c)
 
 -- ---- the words of the variables that occur
@@ -35,42 +35,42 @@ variable-below c v h e = omega (arith, variable-is c)
 pub or-one : (w v x : ℕ) → bit (bit_or w (2 ^ v)) x ≡ bit w x || eqb x v
 or-one w v x = bit-or w (2 ^ v) x ∙ ap (λ (t : Bool). bit w x || t) (bit-pow v x)
 
-module _ (found : Occurring) (code one : ℕ) (o : one ≡ 2 ^ (literalOf code).variable) where
-  pub with-negative : (literalOf code).negative ≡ true → With found code (record { all = bit_or found.all one; negated = bit_or found.negated one })
-  with-negative e = record {
-    all-is = λ x. rw o (or-one found.all (literalOf code).variable x);
-    negated-is = λ x. rw (o, e) (or-one found.negated (literalOf code).variable x);
+module _ (found : Occurring) (code one : ℕ) (o : one ≡ 2 ^ (literal_of code).variable) where
+  pub with_negative : (literal_of code).negative ≡ true → With found code (record { all = bit_or found.all one; negated = bit_or found.negated one })
+  with_negative e = record {
+    all-is = λ x. rw o (or-one found.all (literal_of code).variable x);
+    negated-is = λ x. rw (o, e) (or-one found.negated (literal_of code).variable x);
   }
 
-  pub with-positive : (literalOf code).negative ≡ false → With found code (record { all = bit_or found.all one; negated = found.negated })
-  with-positive e = record {
-    all-is = λ x. rw o (or-one found.all (literalOf code).variable x);
+  pub with_positive : (literal_of code).negative ≡ false → With found code (record { all = bit_or found.all one; negated = found.negated })
+  with_positive e = record {
+    all-is = λ x. rw o (or-one found.all (literal_of code).variable x);
     negated-is = λ x. rw e (sym (or-false (bit found.negated x)));
   }
 
 -- ---- a test of some literal of the clauses of codes
 
-some_first : (t : Literal → Bool) (l : Literal) (cs : List Clause) → someClause t (toFirst l cs) ≡ t l || someClause t cs
-unfolding someClause someLiteral toFirst
+some_first : (t : Literal → Bool) (l : Literal) (cs : List Clause) → some_clause t (to_first l cs) ≡ t l || some_clause t cs
+unfolding some_clause some_literal to_first
 some_first t l [] = or_assoc (t l) false false
-some_first t l (c ∷ cs) = or_assoc (t l) (someLiteral t c) (someClause t cs)
+some_first t l (c ∷ cs) = or_assoc (t l) (some_literal t c) (some_clause t cs)
 
-pub some-none : (t : Literal → Bool) → someClause t (clausesOf []) ≡ false
-unfolding someClause clausesOf
+pub some-none : (t : Literal → Bool) → some_clause t (clauses_of []) ≡ false
+unfolding some_clause clauses_of
 some-none t = refl
 
-pub some_end : (t : Literal → Bool) (cs : List ℕ) → someClause t (clausesOf (0 ∷ cs)) ≡ someClause t (clausesOf cs)
-unfolding someClause someLiteral clausesOf
+pub some_end : (t : Literal → Bool) (cs : List ℕ) → some_clause t (clauses_of (0 ∷ cs)) ≡ some_clause t (clauses_of cs)
+unfolding some_clause some_literal clauses_of
 some_end t cs = refl
 
-pub some-literal : (c : ℕ) (cs : List ℕ) → (c ≡ 0 → ⊥) → (t : Literal → Bool) → someClause t (clausesOf (c ∷ cs)) ≡ t (literalOf c) || someClause t (clausesOf cs)
-unfolding clausesOf
-some-literal c cs h t = rw (ne_eqb c 0 h) (some_first t (literalOf c) (clausesOf cs))
+pub some-literal : (c : ℕ) (cs : List ℕ) → (c ≡ 0 → ⊥) → (t : Literal → Bool) → some_clause t (clauses_of (c ∷ cs)) ≡ t (literal_of c) || some_clause t (clauses_of cs)
+unfolding clauses_of
+some-literal c cs h t = rw (ne_eqb c 0 h) (some_first t (literal_of c) (clauses_of cs))
 
 -- the words have, with the codes that are left, what all codes have
 pub record Found (codes : List ℕ) (i : ℕ) (found : Occurring) : Type 0 where
-  pub all_found : (x : ℕ) → occurs (clausesOf codes) x ≡ bit found.all x || occurs (clausesOf (drop i codes)) x
-  pub negated-found : (x : ℕ) → negated (clausesOf codes) x ≡ bit found.negated x || negated (clausesOf (drop i codes)) x
+  pub all_found : (x : ℕ) → occurs (clauses_of codes) x ≡ bit found.all x || occurs (clauses_of (drop i codes)) x
+  pub negated-found : (x : ℕ) → negated (clauses_of codes) x ≡ bit found.negated x || negated (clauses_of (drop i codes)) x
 
 pub found-same : (codes : List ℕ) (i : ℕ) {found more : Occurring} → Found codes i found → more ≡ found → Found codes i more
 found-same codes i f e = rw e f
@@ -79,7 +79,7 @@ pub found-start : (codes : List ℕ) → Found codes 0 (record { all = 0; negate
 found-start codes = record { all_found = λ x. rw bit-none; negated-found = λ x. rw bit-none }
 
 module _ (codes : List ℕ) (i : ℕ) (found : Occurring) (f : Found codes i found) where
-  pub found-end : length codes ≤ i → (bit found.all ≡ occurs (clausesOf codes)) × (bit found.negated ≡ negated (clausesOf codes))
+  pub found-end : length codes ≤ i → (bit found.all ≡ occurs (clauses_of codes)) × (bit found.negated ≡ negated (clauses_of codes))
   unfolding occurs negated
   found-end h =
       let e = drop_of_length-le codes {i = i} h in (
@@ -91,17 +91,17 @@ module _ (codes : List ℕ) (i : ℕ) (found : Occurring) (f : Found codes i fou
     here : drop i codes ≡ c ∷ drop (i + 1) codes
     here = drop-cons codes i 0 h ∙ rw (e, add-one i)
 
-    pub found-clause : c ≡ 0 → Found codes (i + 1) found
+    pub found_clause : c ≡ 0 → Found codes (i + 1) found
     unfolding occurs negated
-    found-clause z =
+    found_clause z =
         let d : drop i codes ≡ 0 ∷ drop (i + 1) codes = here ∙ ap (λ (k : ℕ). k ∷ drop (i + 1) codes) z in
         record { all_found = λ x. rw (d, some_end) at (f.all_found x); negated-found = λ x. rw (d, some_end) at (f.negated-found x) }
 
     pub found-literal : (c ≡ 0 → ⊥) → (more : Occurring) → With found c more → Found codes (i + 1) more
     unfolding occurs negated
     found-literal n more w =
-        let l = literalOf c in
-        let rest = clausesOf (drop (i + 1) codes) in
+        let l = literal_of c in
+        let rest = clauses_of (drop (i + 1) codes) in
         let first = some-literal c (drop (i + 1) codes) n in
         record {
           all_found = λ x. rw (w.all-is x) ((rw (here, first) at (f.all_found x)) ∙ sym (or_assoc (bit found.all x) (eqb x l.variable) (occurs rest x)));
@@ -116,25 +116,25 @@ pub count_none : (p : ℕ → Bool) (x : ℕ) → count p x 0 ≡ 0
 unfolding count
 count_none p x = refl
 
-pub count-has : (p : ℕ → Bool) (x n : ℕ) → p x ≡ true → count p x (suc n) ≡ suc (count p (x + 1) n)
+pub count_has : (p : ℕ → Bool) (x n : ℕ) → p x ≡ true → count p x (suc n) ≡ suc (count p (x + 1) n)
 unfolding count
-count-has p x n e = rw (e, add-one x)
+count_has p x n e = rw (e, add-one x)
 
-pub count-lacks : (p : ℕ → Bool) (x n : ℕ) → p x ≡ false → count p x (suc n) ≡ count p (x + 1) n
+pub count_lacks : (p : ℕ → Bool) (x n : ℕ) → p x ≡ false → count p x (suc n) ≡ count p (x + 1) n
 unfolding count
-count-lacks p x n e = rw (e, add-one x)
+count_lacks p x n e = rw (e, add-one x)
 
 pub having-none : (p : ℕ → Bool) (x : ℕ) → having p x 0 ≡ []
 unfolding having
 having-none p x = refl
 
-pub having-has : (p : ℕ → Bool) (x n : ℕ) → p x ≡ true → having p x (suc n) ≡ x ∷ having p (x + 1) n
+pub having_has : (p : ℕ → Bool) (x n : ℕ) → p x ≡ true → having p x (suc n) ≡ x ∷ having p (x + 1) n
 unfolding having
-having-has p x n e = rw (e, add-one x)
+having_has p x n e = rw (e, add-one x)
 
-pub having-lacks : (p : ℕ → Bool) (x n : ℕ) → p x ≡ false → having p x (suc n) ≡ having p (x + 1) n
+pub having_lacks : (p : ℕ → Bool) (x n : ℕ) → p x ≡ false → having p x (suc n) ≡ having p (x + 1) n
 unfolding having
-having-lacks p x n e = rw (e, add-one x)
+having_lacks p x n e = rw (e, add-one x)
 
 -- from frame `start` on: n frames stand once the numbers below x had their turn, and the stores that are left give what all give
 module _ (p : ℕ → Bool) (f : ℕ → Kind) (start : ℕ) (all : List ℕ) where
@@ -142,13 +142,13 @@ module _ (p : ℕ → Bool) (f : ℕ → Kind) (start : ℕ) (all : List ℕ) wh
     pub few : n ≤ start + x
     pub same : length out ≡ length all
     pub counted : start + count p 0 variables ≡ n + count p x (variables - x)
-    pub stored : sets all (start * 4) (sheetBytes (map f (having p 0 variables))) ≡ sets out (n * 4) (sheetBytes (map f (having p x (variables - x))))
+    pub stored : sets all (start * 4) (sheet_bytes (map f (having p 0 variables))) ≡ sets out (n * 4) (sheet_bytes (map f (having p x (variables - x))))
 
   pub stored-start : Stored 0 start all
   stored-start = record { few = omega arith; same = refl; counted = refl; stored = refl }
 
   module _ (x n : ℕ) (out : List ℕ) (s : Stored x n out) where
-    pub stored-end : variables ≤ x → (n ≡ start + count p 0 variables) × (out ≡ sets all (start * 4) (sheetBytes (map f (having p 0 variables))))
+    pub stored-end : variables ≤ x → (n ≡ start + count p 0 variables) × (out ≡ sets all (start * 4) (sheet_bytes (map f (having p 0 variables))))
     stored-end h =
         let z : variables - x ≡ 0 = omega arith in
         let k = rw (z, count_none p x) at s.counted in
@@ -158,21 +158,21 @@ module _ (p : ℕ → Bool) (f : ℕ → Kind) (start : ℕ) (all : List ℕ) wh
       rest : variables - x ≡ suc (variables - (x + 1))
       rest = omega arith
 
-      pub stored-has : p x ≡ true → n' ≡ n + 1 → out' ≡ sets out (n * 4) (frameBytes (f x)) → Stored (x + 1) n' out'
-      stored-has t e o =
-          let k = rw (rest, count-has p x (variables - (x + 1)) t) at s.counted in
-          let g = rw (rest, having-has p x (variables - (x + 1)) t) at s.stored in
+      pub stored_has : p x ≡ true → n' ≡ n + 1 → out' ≡ sets out (n * 4) (frame_bytes (f x)) → Stored (x + 1) n' out'
+      stored_has t e o =
+          let k = rw (rest, count_has p x (variables - (x + 1)) t) at s.counted in
+          let g = rw (rest, having_has p x (variables - (x + 1)) t) at s.stored in
           record {
             few = omega (arith, s.few);
-            same = ap length o ∙ length-sets out (n * 4) (frameBytes (f x)) ∙ s.same;
+            same = ap length o ∙ length-sets out (n * 4) (frame_bytes (f x)) ∙ s.same;
             counted = omega (arith, k);
-            stored = g ∙ store-frame (f x) (map f (having p (x + 1) (variables - (x + 1)))) out n ∙ rw (e, o);
+            stored = g ∙ store_frame (f x) (map f (having p (x + 1) (variables - (x + 1)))) out n ∙ rw (e, o);
           }
 
-      pub stored-lacks : p x ≡ false → n' ≡ n → out' ≡ out → Stored (x + 1) n' out'
-      stored-lacks t e o = record {
+      pub stored_lacks : p x ≡ false → n' ≡ n → out' ≡ out → Stored (x + 1) n' out'
+      stored_lacks t e o = record {
         few = omega (arith, s.few);
         same = ap length o ∙ s.same;
-        counted = rw e (rw (rest, count-lacks p x (variables - (x + 1)) t) at s.counted);
-        stored = rw (e, o) (rw (rest, having-lacks p x (variables - (x + 1)) t) at s.stored);
+        counted = rw e (rw (rest, count_lacks p x (variables - (x + 1)) t) at s.counted);
+        stored = rw (e, o) (rw (rest, having_lacks p x (variables - (x + 1)) t) at s.stored);
       }

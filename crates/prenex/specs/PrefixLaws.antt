@@ -5,18 +5,18 @@ use Rattle.std.proofs.Math.Path.{fun_ext, subst⁻¹}
 use Rattle.std.proofs.Math.Bool.{and-false, and-true, or_comm, or_assoc}
 use Rattle.words.specs.Logic.{by_bool, clash, tests, or_cases, or_left, or_right, or-false}
 use Rattle.formula.specs.Assignment.{Assignment, within, sweep, none, union, minus, within-suc, within-zero}
-use Rattle.formula.specs.Assignment.{by_value, differ, sweep-finds, sweep-meets}
+use Rattle.formula.specs.Assignment.{by_value, differ, sweep_finds, sweep_meets}
 use Rattle.formula.specs.Formula.{Formula, quant, truth, free}
-use Rattle.sheet.specs.Frames.{build, formulaOf, Fit, OrderedBelow, formula-below}
+use Rattle.sheet.specs.Frames.{build, formula_of, Fit, OrderedBelow, formula-below}
 use Rattle.sheet.specs.Rules.{binds}
 use Rattle.sheet.specs.declared.Kind.{Kind}
 use Rattle.sheet.specs.declared.Kind.TheVariants.{Never, Input, Not, And, Or, Exists, Forall, Gauge}
-use Rattle.prenex.specs.Question.{Block, overAtoms, underBlocks, member, allAtoms, quantified}
-use Rattle.prenex.specs.Question.{Every, every-none, every_one, Distinct, distinct-one}
-use Rattle.prenex.specs.Kinds.{variables, Run, runs, quantifier, runKinds, blockKinds}
-use Rattle.prenex.specs.SheetLaws.{Has, has_left, has_right, has-head, has-tail}
+use Rattle.prenex.specs.Question.{Block, over_atoms, under_blocks, member, all_atoms, quantified}
+use Rattle.prenex.specs.Question.{Every, every-none, every_one, Distinct, distinct_one}
+use Rattle.prenex.specs.Kinds.{variables, Run, runs, quantifier, run_kinds, block_kinds}
+use Rattle.prenex.specs.SheetLaws.{Has, has_left, has_right, has_head, has_tail}
 use Rattle.prenex.specs.ChainLaws.{Below}
-use Rattle.prenex.specs.RunLaws.{Ascending, no_run, next-run, runs-ascending, inRuns, in-runs, ascending-apart}
+use Rattle.prenex.specs.RunLaws.{Ascending, no_run, next-run, runs_ascending, in_runs, in-runs, ascending_apart}
 
 -- ---- quantifying over a set of variables
 
@@ -26,9 +26,9 @@ pub record Over (d : Bool) (m : ℕ → Bool) (p q : Assignment → Bool) : Type
   pub meets : (σ τ : Assignment) → ((k : ℕ) → m k ≡ false → τ k ≡ σ k) → p τ ≡ d → q σ ≡ d
 
 -- and it is not d exactly where none does
-pub over-misses : {d : Bool} {m : ℕ → Bool} {p q : Assignment → Bool} → Over d m p q
+pub over_misses : {d : Bool} {m : ℕ → Bool} {p q : Assignment → Bool} → Over d m p q
     → (σ : Assignment) → q σ ≡ not d → (τ : Assignment) → ((k : ℕ) → m k ≡ false → τ k ≡ σ k) → p τ ≡ not d
-over-misses {d} {m} {p} {q} o σ e τ t = by_value d (p τ) (λ h. differ d (q σ) (o.meets σ τ t h) e) (λ h. h)
+over_misses {d} {m} {p} {q} o σ e τ t = by_value d (p τ) (λ h. differ d (q σ) (o.meets σ τ t h) e) (λ h. h)
 
 pub over-all : {d : Bool} {m : ℕ → Bool} {p q : Assignment → Bool} → Over d m p q
     → (σ : Assignment) → ((τ : Assignment) → ((k : ℕ) → m k ≡ false → τ k ≡ σ k) → p τ ≡ not d) → q σ ≡ not d
@@ -42,7 +42,7 @@ pub over-same : {d : Bool} {m : ℕ → Bool} {p q r : Assignment → Bool} → 
 over-same {d} {m} {p} {q} {r} o u σ =
     by_value d (q σ)
     (λ h. let t = o.finds σ h in h ∙ sym (u.meets σ t.0 t.1 t.2))
-    (λ h. h ∙ sym (over-all u σ (λ τ t. over-misses o σ h τ t)))
+    (λ h. h ∙ sym (over-all u σ (λ τ t. over_misses o σ h τ t)))
 
 pub over_none : (d : Bool) (p : Assignment → Bool) → Over d none p p
 over_none d p = record {
@@ -51,7 +51,7 @@ over_none d p = record {
 }
 
 pub over-sweep : (d : Bool) (b c : ℕ) (p : Assignment → Bool) → Over d (within b c) p (sweep d b c p)
-over-sweep d b c p = record { finds = sweep-finds d b c p; meets = sweep-meets d b c p }
+over-sweep d b c p = record { finds = sweep_finds d b c p; meets = sweep_meets d b c p }
 
 -- τ on the variables of m, σ elsewhere
 abbrev mix : (ℕ → Bool) → Assignment → Assignment → Assignment
@@ -75,25 +75,25 @@ over-set {d} {m} {n} {p} {q} h o = rw (← (fun_ext h)) o
 
 -- ---- atoms and runs
 
-one-atom : (x k : ℕ) → within x 1 k ≡ eqb k x
-one-atom x k = within-suc x 0 k ∙ rw within-zero (or_comm (eqb k x) false)
+one_atom : (x k : ℕ) → within x 1 k ≡ eqb k x
+one_atom x k = within-suc x 0 k ∙ rw within-zero (or_comm (eqb k x) false)
 
-pub over-atoms : (d : Bool) (xs : List ℕ) (p : Assignment → Bool) → Over d (member xs) p (overAtoms d xs p)
-unfolding member overAtoms sweep
+pub over-atoms : (d : Bool) (xs : List ℕ) (p : Assignment → Bool) → Over d (member xs) p (over_atoms d xs p)
+unfolding member over_atoms sweep
 over-atoms d [] p = over_none d p
 over-atoms d (x ∷ xs) p =
-    over-set (λ k. rw (one-atom x k) (or_comm (member xs k) (eqb k x)))
-    (over-union (over-atoms d xs p) (over-sweep d x 1 (overAtoms d xs p)))
+    over-set (λ k. rw (one_atom x k) (or_comm (member xs k) (eqb k x)))
+    (over-union (over-atoms d xs p) (over-sweep d x 1 (over_atoms d xs p)))
 
 -- the last run is the outermost
-unfoldable pub overRuns : Bool → List Run → (Assignment → Bool) → Assignment → Bool
-overRuns d [] p = p
-overRuns d (r ∷ rs) p = overRuns d rs (sweep d r.first r.size p)
+unfoldable pub over_runs : Bool → List Run → (Assignment → Bool) → Assignment → Bool
+over_runs d [] p = p
+over_runs d (r ∷ rs) p = over_runs d rs (sweep d r.first r.size p)
 
-pub over_runs : (d : Bool) (rs : List Run) (p : Assignment → Bool) → Over d (inRuns rs) p (overRuns d rs p)
-unfolding inRuns overRuns
-over_runs d [] p = over_none d p
-over_runs d (r ∷ rs) p = over-union (over-sweep d r.first r.size p) (over_runs d rs (sweep d r.first r.size p))
+pub over_runs_lem : (d : Bool) (rs : List Run) (p : Assignment → Bool) → Over d (in_runs rs) p (over_runs d rs p)
+unfolding in_runs over_runs
+over_runs_lem d [] p = over_none d p
+over_runs_lem d (r ∷ rs) p = over-union (over-sweep d r.first r.size p) (over_runs_lem d rs (sweep d r.first r.size p))
 
 -- a property that all elements have, a member has
 pub every-member : {P : ℕ → Type 0} {xs : List ℕ} → Every P xs → (k : ℕ) → member xs k ≡ true → P k
@@ -105,25 +105,25 @@ every-member {P} (every_one {a} {l} h hs) k e =
     (λ t. every-member hs k t)
 
 -- the runs of a block have its atoms
-pub in-atoms : (xs : List ℕ) → Below variables xs → (k : ℕ) → inRuns (runs (member xs)) k ≡ member xs k
-in-atoms xs h k =
+pub in_atoms : (xs : List ℕ) → Below variables xs → (k : ℕ) → in_runs (runs (member xs)) k ≡ member xs k
+in_atoms xs h k =
     in-runs (member xs) k
     ∙ by_bool (member xs k)
     (λ e. rw (e, lt-ltb k variables (every-member h k e)))
     (λ e. rw e (and-false (ltb k variables)))
 
 -- so order and repetition of atoms do not matter
-pub over-block : (d : Bool) (xs : List ℕ) (p : Assignment → Bool) → Below variables xs
-    → (σ : Assignment) → overRuns d (runs (member xs)) p σ ≡ overAtoms d xs p σ
-over-block d xs p h σ = over-same (over-set (in-atoms xs h) (over_runs d (runs (member xs)) p)) (over-atoms d xs p) σ
+pub over_block : (d : Bool) (xs : List ℕ) (p : Assignment → Bool) → Below variables xs
+    → (σ : Assignment) → over_runs d (runs (member xs)) p σ ≡ over_atoms d xs p σ
+over_block d xs p h σ = over-same (over-set (in_atoms xs h) (over_runs_lem d (runs (member xs)) p)) (over-atoms d xs p) σ
 
 -- ---- the frames before n: they are in order, and the last of them has the truth p and the free variables g
 
 pub record Stands (κ : ℕ → Kind) (n : ℕ) (p : Assignment → Bool) (g : ℕ → Bool) : Type 0 where
   pub least : 1 ≤ n
   pub ordered : OrderedBelow n variables κ
-  pub truth-is : (σ : Assignment) → truth (formulaOf κ (n - 1)) σ ≡ p σ
-  pub free-is : (x : ℕ) → free (formulaOf κ (n - 1)) x ≡ g x
+  pub truth-is : (σ : Assignment) → truth (formula_of κ (n - 1)) σ ≡ p σ
+  pub free-is : (x : ℕ) → free (formula_of κ (n - 1)) x ≡ g x
 
 pub stands_same : {κ : ℕ → Kind} {n m : ℕ} {p q : Assignment → Bool} {f g : ℕ → Bool}
     → n ≡ m → ((σ : Assignment) → p σ ≡ q σ) → ((x : ℕ) → f x ≡ g x) → Stands κ n p f → Stands κ m q g
@@ -155,9 +155,9 @@ stands-next : {κ : ℕ → Kind} {n : ℕ} {p : Assignment → Bool} {g : ℕ �
 unfolding truth free
 stands-next {κ} {n} {p} {g} d b c e h s =
     let o = ordered-next κ n s.ordered (rw e (fit-quantifier d n (n - 1) b c (omega (arith, s.least)) h)) in
-    let is : formulaOf κ (suc n - 1) ≡ quant d b c (formulaOf κ (n - 1)) =
-    ap (formulaOf κ) (omega arith) ∙ formula-below variables (suc n) κ o n (omega arith)
-    ∙ ap (build (formulaOf κ)) e ∙ build-quantifier d (formulaOf κ) (n - 1) b c in
+    let is : formula_of κ (suc n - 1) ≡ quant d b c (formula_of κ (n - 1)) =
+    ap (formula_of κ) (omega arith) ∙ formula-below variables (suc n) κ o n (omega arith)
+    ∙ ap (build (formula_of κ)) e ∙ build-quantifier d (formula_of κ) (n - 1) b c in
     record {
       least = omega arith;
       ordered = o;
@@ -172,51 +172,51 @@ without-both true false b = refl
 without-both false a b = refl
 
 pub stands-runs : {κ : ℕ → Kind} {n x : ℕ} {p : Assignment → Bool} {g : ℕ → Bool} (d : Bool) {rs : List Run} → Ascending variables x rs
-    → Has κ n (runKinds d rs n) → Stands κ n p g → Stands κ (n + length rs) (overRuns d rs p) (λ k. g k && not (inRuns rs k))
-unfolding runKinds overRuns inRuns
+    → Has κ n (run_kinds d rs n) → Stands κ n p g → Stands κ (n + length rs) (over_runs d rs p) (λ k. g k && not (in_runs rs k))
+unfolding run_kinds over_runs in_runs
 stands-runs {g = g} d no_run h s = stands_same (omega arith) (λ σ. refl) (λ k. sym (and-true (g k))) s
 stands-runs {g = g} d (next-run r {rs} i l e a) h s =
-    stands_same (omega arith) (λ σ. refl) (λ k. without-both (g k) (within r.first r.size k) (inRuns rs k))
-    (stands-runs d a (has-tail h) (stands-next d r.first r.size (has-head h) e s))
+    stands_same (omega arith) (λ σ. refl) (λ k. without-both (g k) (within r.first r.size k) (in_runs rs k))
+    (stands-runs d a (has_tail h) (stands-next d r.first r.size (has_head h) e s))
 
-pub run-kinds-length : (d : Bool) (rs : List Run) (n : ℕ) → length (runKinds d rs n) ≡ length rs
-unfolding runKinds
+pub run-kinds-length : (d : Bool) (rs : List Run) (n : ℕ) → length (run_kinds d rs n) ≡ length rs
+unfolding run_kinds
 run-kinds-length d [] n = refl
 run-kinds-length d (r ∷ rs) n = ap suc (run-kinds-length d rs (suc n))
 
-block-kinds-length : (b : Block) (bs : List Block) (n : ℕ)
-    → n + length (blockKinds bs n) + length (runs (member b.atoms)) ≡ n + length (blockKinds (b ∷ bs) n)
-unfolding blockKinds
-block-kinds-length b bs n =
-    let at = n + length (blockKinds bs n) in
-    omega (arith, length-append (blockKinds bs n) (runKinds b.exists (runs (member b.atoms)) at), run-kinds-length b.exists (runs (member b.atoms)) at)
+block_kinds-length : (b : Block) (bs : List Block) (n : ℕ)
+    → n + length (block_kinds bs n) + length (runs (member b.atoms)) ≡ n + length (block_kinds (b ∷ bs) n)
+unfolding block_kinds
+block_kinds-length b bs n =
+    let at = n + length (block_kinds bs n) in
+    omega (arith, length-append (block_kinds bs n) (run_kinds b.exists (runs (member b.atoms)) at), run-kinds-length b.exists (runs (member b.atoms)) at)
 
-pub member-append : (xs ys : List ℕ) (k : ℕ) → member (xs ++ ys) k ≡ member xs k || member ys k
+pub member_append : (xs ys : List ℕ) (k : ℕ) → member (xs ++ ys) k ≡ member xs k || member ys k
 unfolding member
-member-append [] ys k = refl
-member-append (x ∷ xs) ys k = ap (λ (t : Bool). eqb k x || t) (member-append xs ys k) ∙ sym (or_assoc (eqb k x) (member xs k) (member ys k))
+member_append [] ys k = refl
+member_append (x ∷ xs) ys k = ap (λ (t : Bool). eqb k x || t) (member_append xs ys k) ∙ sym (or_assoc (eqb k x) (member xs k) (member ys k))
 
 -- the atoms of each block are below 32
 abbrev pub BlocksBelow : List Block → Type 0
 BlocksBelow bs = Every (λ (b : Block). Below variables b.atoms) bs
 
-in_block : (b : Block) (bs : List Block) → Below variables b.atoms → (k : ℕ) → quantified bs k || inRuns (runs (member b.atoms)) k ≡ quantified (b ∷ bs) k
-unfolding allAtoms
-in_block b bs w k = rw (in-atoms b.atoms w k, member-append b.atoms (allAtoms bs) k) (or_comm (quantified bs k) (member b.atoms k))
+in_block : (b : Block) (bs : List Block) → Below variables b.atoms → (k : ℕ) → quantified bs k || in_runs (runs (member b.atoms)) k ≡ quantified (b ∷ bs) k
+unfolding all_atoms
+in_block b bs w k = rw (in_atoms b.atoms w k, member_append b.atoms (all_atoms bs) k) (or_comm (quantified bs k) (member b.atoms k))
 
 -- the frames of the blocks mean the prefix
 pub stands-blocks : {κ : ℕ → Kind} {n : ℕ} {p : Assignment → Bool} {g : ℕ → Bool} {bs : List Block} → BlocksBelow bs
-    → Has κ n (blockKinds bs n) → Stands κ n p g → Stands κ (n + length (blockKinds bs n)) (underBlocks bs p) (λ x. g x && not (quantified bs x))
-unfolding blockKinds underBlocks allAtoms member
+    → Has κ n (block_kinds bs n) → Stands κ n p g → Stands κ (n + length (block_kinds bs n)) (under_blocks bs p) (λ x. g x && not (quantified bs x))
+unfolding block_kinds under_blocks all_atoms member
 stands-blocks {g = g} every-none h s = stands_same (omega arith) (λ σ. refl) (λ k. sym (and-true (g k))) s
 stands-blocks {n = n} {p = p} {g = g} (every_one {a = b} {l = bs} w ws) h s =
-    let inner = stands-blocks ws (has_left (blockKinds bs n) _ h) s in
+    let inner = stands-blocks ws (has_left (block_kinds bs n) _ h) s in
     let rs = runs (member b.atoms) in
-    let here = stands-runs b.exists (runs-ascending (member b.atoms)) (has_right (blockKinds bs n) _ h) inner in
+    let here = stands-runs b.exists (runs_ascending (member b.atoms)) (has_right (block_kinds bs n) _ h) inner in
     stands_same
-    (block-kinds-length b bs n)
-    (over-block b.exists b.atoms (underBlocks bs p) w)
-    (λ k. without-both (g k) (quantified bs k) (inRuns rs k) ∙ ap (λ (t : Bool). g k && not t) (in_block b bs w k))
+    (block_kinds-length b bs n)
+    (over_block b.exists b.atoms (under_blocks bs p) w)
+    (λ k. without-both (g k) (quantified bs k) (in_runs rs k) ∙ ap (λ (t : Bool). g k && not t) (in_block b bs w k))
     here
 
 -- ---- what the frames from n to e bind: each at least one variable, all of them variables of m, and none twice
@@ -281,9 +281,9 @@ binds-join {κ} {n} {l} {e} {m} {o} u w h = record {
       (λ y. w.once j k v (omega tests) b (omega tests) d t s));
 }
 
-quantifier-ranged : (d : Bool) (a b c : ℕ) → 1 ≤ c → Ranged (quantifier d a b c)
-quantifier-ranged true a b c h = h
-quantifier-ranged false a b c h = h
+quantifier_ranged : (d : Bool) (a b c : ℕ) → 1 ≤ c → Ranged (quantifier d a b c)
+quantifier_ranged true a b c h = h
+quantifier_ranged false a b c h = h
 
 quantifier-binds : (d : Bool) (a b c v : ℕ) → binds (quantifier d a b c) v ≡ within b c v
 unfolding binds
@@ -291,38 +291,38 @@ quantifier-binds true a b c v = refl
 quantifier-binds false a b c v = refl
 
 pub binds-runs : {κ : ℕ → Kind} {n x : ℕ} (d : Bool) {rs : List Run} → Ascending variables x rs
-    → Has κ n (runKinds d rs n) → Binds κ n (n + length rs) (inRuns rs)
-unfolding runKinds inRuns
+    → Has κ n (run_kinds d rs n) → Binds κ n (n + length rs) (in_runs rs)
+unfolding run_kinds in_runs
 binds-runs {κ} {n} d no_run h = no-frame κ n
 binds-runs {κ} {n} d (next-run r {rs} i l e a) h =
     let is : (v : ℕ) → binds (κ n) v ≡ within r.first r.size v =
-    λ v. ap (λ (q : Kind). binds q v) (has-head h) ∙ quantifier-binds d (n - 1) r.first r.size v in
-    let here = one-frame κ n (rw (has-head h) (quantifier-ranged d (n - 1) r.first r.size l)) in
-    binds-same (omega arith) (λ v. refl) (binds-join (binds-same refl is here) (binds-runs d a (has-tail h)) (λ v t. ascending-apart r a v t))
+    λ v. ap (λ (q : Kind). binds q v) (has_head h) ∙ quantifier-binds d (n - 1) r.first r.size v in
+    let here = one-frame κ n (rw (has_head h) (quantifier_ranged d (n - 1) r.first r.size l)) in
+    binds-same (omega arith) (λ v. refl) (binds-join (binds-same refl is here) (binds-runs d a (has_tail h)) (λ v t. ascending_apart r a v t))
 
 -- ---- atoms that are quantified once
 
-distinct-rest : (xs ys : List ℕ) → Distinct (xs ++ ys) → Distinct ys
-distinct-rest [] ys w = w
-distinct-rest (x ∷ xs) ys (distinct-one h w) = distinct-rest xs ys w
+distinct_rest : (xs ys : List ℕ) → Distinct (xs ++ ys) → Distinct ys
+distinct_rest [] ys w = w
+distinct_rest (x ∷ xs) ys (distinct_one h w) = distinct_rest xs ys w
 
 distinct_apart : (xs ys : List ℕ) → Distinct (xs ++ ys) → (k : ℕ) → member xs k ≡ true → member ys k ≡ false
 unfolding member
 distinct_apart [] ys w k e = clash false e refl
-distinct_apart (x ∷ xs) ys (distinct-one h w) k e =
+distinct_apart (x ∷ xs) ys (distinct_one h w) k e =
     or_cases (eqb k x) (member xs k) e
-    (λ t. ap (member ys) (eqb-true k x t) ∙ (or-false (member xs x) (member ys x) (sym (member-append xs ys x) ∙ h)).1)
+    (λ t. ap (member ys) (eqb-true k x t) ∙ (or-false (member xs x) (member ys x) (sym (member_append xs ys x) ∙ h)).1)
     (λ t. distinct_apart xs ys w k t)
 
-pub binds-blocks : {κ : ℕ → Kind} {n : ℕ} {bs : List Block} → BlocksBelow bs → Distinct (allAtoms bs)
-    → Has κ n (blockKinds bs n) → Binds κ n (n + length (blockKinds bs n)) (quantified bs)
-unfolding blockKinds allAtoms member
+pub binds-blocks : {κ : ℕ → Kind} {n : ℕ} {bs : List Block} → BlocksBelow bs → Distinct (all_atoms bs)
+    → Has κ n (block_kinds bs n) → Binds κ n (n + length (block_kinds bs n)) (quantified bs)
+unfolding block_kinds all_atoms member
 binds-blocks {κ} {n} every-none o h = no-frame κ n
 binds-blocks {κ} {n} (every_one {a = b} {l = bs} w ws) o h =
-    let inner = binds-blocks ws (distinct-rest b.atoms (allAtoms bs) o) (has_left (blockKinds bs n) _ h) in
-    let here = binds-runs b.exists (runs-ascending (member b.atoms)) (has_right (blockKinds bs n) _ h) in
-    binds-same (block-kinds-length b bs n) (in_block b bs w)
+    let inner = binds-blocks ws (distinct_rest b.atoms (all_atoms bs) o) (has_left (block_kinds bs n) _ h) in
+    let here = binds-runs b.exists (runs_ascending (member b.atoms)) (has_right (block_kinds bs n) _ h) in
+    binds-same (block_kinds-length b bs n) (in_block b bs w)
     (binds-join inner here
     (λ v t. by_bool (member b.atoms v)
-    (λ u. clash (quantified bs v) t (distinct_apart b.atoms (allAtoms bs) o v u))
-    (λ u. in-atoms b.atoms w v ∙ u)))
+    (λ u. clash (quantified bs v) t (distinct_apart b.atoms (all_atoms bs) o v u))
+    (λ u. in_atoms b.atoms w v ∙ u)))

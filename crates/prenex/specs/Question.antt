@@ -24,57 +24,57 @@ pub record Question : Type 0 where
 
 -- ---- the meaning: clauses, then the prefix from the inside
 
-abbrev pub literalTruth : Literal → Assignment → Bool
-literalTruth l σ = cond l.negative (not (σ l.variable)) (σ l.variable)
+abbrev pub literal_truth : Literal → Assignment → Bool
+literal_truth l σ = cond l.negative (not (σ l.variable)) (σ l.variable)
 
-unfoldable pub clauseTruth : Clause → Assignment → Bool
-clauseTruth [] σ = false
-clauseTruth (l ∷ c) σ = literalTruth l σ || clauseTruth c σ
+unfoldable pub clause_truth : Clause → Assignment → Bool
+clause_truth [] σ = false
+clause_truth (l ∷ c) σ = literal_truth l σ || clause_truth c σ
 
-unfoldable pub matrixTruth : List Clause → Assignment → Bool
-matrixTruth [] σ = true
-matrixTruth (c ∷ cs) σ = clauseTruth c σ && matrixTruth cs σ
+unfoldable pub matrix_truth : List Clause → Assignment → Bool
+matrix_truth [] σ = true
+matrix_truth (c ∷ cs) σ = clause_truth c σ && matrix_truth cs σ
 
 -- p under some (d true) or every (d false) assignment of the atoms
-unfoldable pub overAtoms : Bool → List ℕ → (Assignment → Bool) → Assignment → Bool
-overAtoms d [] p σ = p σ
-overAtoms d (x ∷ xs) p σ = join d (overAtoms d xs p (assign σ x false)) (overAtoms d xs p (assign σ x true))
+unfoldable pub over_atoms : Bool → List ℕ → (Assignment → Bool) → Assignment → Bool
+over_atoms d [] p σ = p σ
+over_atoms d (x ∷ xs) p σ = join d (over_atoms d xs p (assign σ x false)) (over_atoms d xs p (assign σ x true))
 
-unfoldable pub underBlocks : List Block → (Assignment → Bool) → Assignment → Bool
-underBlocks [] p σ = p σ
-underBlocks (b ∷ bs) p σ = overAtoms b.exists b.atoms (underBlocks bs p) σ
+unfoldable pub under_blocks : List Block → (Assignment → Bool) → Assignment → Bool
+under_blocks [] p σ = p σ
+under_blocks (b ∷ bs) p σ = over_atoms b.exists b.atoms (under_blocks bs p) σ
 
-unfoldable pub questionTruth : Question → Assignment → Bool
-questionTruth q σ = underBlocks q.blocks (matrixTruth q.clauses) σ
+unfoldable pub question_truth : Question → Assignment → Bool
+question_truth q σ = under_blocks q.blocks (matrix_truth q.clauses) σ
 
 -- ---- which variables occur, and how
 
 -- a literal's test holds of some literal of the clauses
-unfoldable pub someLiteral : (Literal → Bool) → Clause → Bool
-someLiteral t [] = false
-someLiteral t (l ∷ c) = t l || someLiteral t c
+unfoldable pub some_literal : (Literal → Bool) → Clause → Bool
+some_literal t [] = false
+some_literal t (l ∷ c) = t l || some_literal t c
 
-unfoldable pub someClause : (Literal → Bool) → List Clause → Bool
-someClause t [] = false
-someClause t (c ∷ cs) = someLiteral t c || someClause t cs
+unfoldable pub some_clause : (Literal → Bool) → List Clause → Bool
+some_clause t [] = false
+some_clause t (c ∷ cs) = some_literal t c || some_clause t cs
 
 unfoldable pub occurs : List Clause → ℕ → Bool
-occurs cs x = someClause (λ l. eqb x l.variable) cs
+occurs cs x = some_clause (λ l. eqb x l.variable) cs
 
 unfoldable pub negated : List Clause → ℕ → Bool
-negated cs x = someClause (λ l. l.negative && eqb x l.variable) cs
+negated cs x = some_clause (λ l. l.negative && eqb x l.variable) cs
 
 unfoldable pub member : List ℕ → ℕ → Bool
 member [] x = false
 member (y ∷ ys) x = eqb x y || member ys x
 
 -- all atoms of the prefix
-unfoldable pub allAtoms : List Block → List ℕ
-allAtoms [] = []
-allAtoms (b ∷ bs) = b.atoms ++ allAtoms bs
+unfoldable pub all_atoms : List Block → List ℕ
+all_atoms [] = []
+all_atoms (b ∷ bs) = b.atoms ++ all_atoms bs
 
 abbrev pub quantified : List Block → ℕ → Bool
-quantified bs x = member (allAtoms bs) x
+quantified bs x = member (all_atoms bs) x
 
 -- ---- what the standard asks
 
@@ -86,7 +86,7 @@ pub data Every {A : Type 0} (P : A → Type 0) : List A → Type 0 where
 -- no element stands twice
 pub data Distinct : List ℕ → Type 0 where
   distinct_none : Distinct []
-  distinct-one : {x : ℕ} {l : List ℕ} → member l x ≡ false → Distinct l → Distinct (x ∷ l)
+  distinct_one : {x : ℕ} {l : List ℕ} → member l x ≡ false → Distinct l → Distinct (x ∷ l)
 
 -- at least one element, all below n
 pub record SomeBelow {A : Type 0} (f : A → ℕ) (n : ℕ) (l : List A) : Type 0 where
@@ -106,10 +106,10 @@ pub record Proper (q : Question) : Type 0 where
   pub blocks-below : Every (λ (b : Block). SomeBelow (λ (x : ℕ). x) q.variables b.atoms) q.blocks
   pub alternating : Alternating q.blocks
   -- no atom is quantified twice, and each occurs in a clause
-  pub once : Distinct (allAtoms q.blocks)
-  pub occurring : Every (λ x. occurs q.clauses x ≡ true) (allAtoms q.blocks)
+  pub once : Distinct (all_atoms q.blocks)
+  pub occurring : Every (λ x. occurs q.clauses x ≡ true) (all_atoms q.blocks)
 
 -- what the standard asks of the matrix's truth: neither true under every assignment nor false under every one
 pub record Contingent (cs : List Clause) : Type 0 where
-  pub makes-true : (σ : Assignment) × (matrixTruth cs σ ≡ true)
-  pub makes-false : (σ : Assignment) × (matrixTruth cs σ ≡ false)
+  pub makes_true : (σ : Assignment) × (matrix_truth cs σ ≡ true)
+  pub makes_false : (σ : Assignment) × (matrix_truth cs σ ≡ false)

@@ -15,10 +15,10 @@ use Rattle.sheet.specs.Gauges.{no-gauges}
 use Rattle.sheet.specs.Keeps.{Quantifies, Reads, Keeps}
 use Rattle.sheet.specs.declared.Kind.{Kind}
 use Rattle.sheet.specs.declared.Kind.TheVariants.{Never, Input, Not, And, Or, Exists, Forall, Gauge}
-use Rattle.prenex.specs.Question.{Literal, Block, Clause, Question, matrixTruth, questionTruth, occurs, allAtoms, quantified}
+use Rattle.prenex.specs.Question.{Literal, Block, Clause, Question, matrix_truth, question_truth, occurs, all_atoms, quantified}
 use Rattle.prenex.specs.Question.{Every, Distinct, SomeBelow, Proper}
-use Rattle.prenex.specs.Kinds.{variables, matrixKinds, blockKinds, kinds, frameBytes, sheetBytes, sheetOf}
-use Rattle.prenex.specs.SheetLaws.{fields_of, sheet-length, sheet-frames, sheet-fields, sheet-kind, Has, has_left, has_right, sheet-has}
+use Rattle.prenex.specs.Kinds.{variables, matrix_kinds, block_kinds, kinds, frame_bytes, sheet_bytes, sheet_of}
+use Rattle.prenex.specs.SheetLaws.{fields_of, sheet-length, sheet-frames, sheet-fields, sheet-kind, Has, has_left, has_right, sheet_has}
 use Rattle.prenex.specs.ChainLaws.{Plain, plain-input, plain-not, plain-and, plain-or}
 use Rattle.prenex.specs.Every.{every_map, every-wider}
 use Rattle.prenex.specs.MatrixLaws.{MatrixStands, matrix-stands}
@@ -27,7 +27,7 @@ use Rattle.prenex.specs.PrefixLaws.{BlocksBelow, Stands, stands_same, stands-blo
 -- ---- the fields of a frame
 
 fields-known : (d : Kind) → (fields_of d).k ≤ 7
-unfolding frameBytes
+unfolding frame_bytes
 fields-known Never = omega arith
 fields-known (Input x) = omega arith
 fields-known (Not a) = omega arith
@@ -39,7 +39,7 @@ fields-known (Gauge x) = omega arith
 
 -- those that a kind does not use are 0
 fields-spare : (d : Kind) → (used d < 1 → (fields_of d).a ≡ 0) × (used d < 2 → (fields_of d).b ≡ 0) × (used d < 3 → (fields_of d).c ≡ 0)
-unfolding frameBytes used
+unfolding frame_bytes used
 fields-spare Never = (λ h. refl, λ h. refl, λ h. refl)
 fields-spare (Input x) = (λ h. absurd (omega arith), λ h. refl, λ h. refl)
 fields-spare (Not a) = (λ h. absurd (omega arith), λ h. refl, λ h. refl)
@@ -54,16 +54,16 @@ fields-spare (Gauge x) = (λ h. absurd (omega arith), λ h. refl, λ h. refl)
 one_earlier : (k a b : ℕ) → b < k → Memᴰ a (b ∷ []) → a < k
 one_earlier k a b h m = ⊎_elim (λ e. omega arith) (λ n. absurd (Memᴰ.not-nil n)) (Memᴰ.cases_cons m)
 
-fit-earlier : (k a : ℕ) (d : Kind) → Fit variables k d → Memᴰ a (names d) → a < k
+fit_earlier : (k a : ℕ) (d : Kind) → Fit variables k d → Memᴰ a (names d) → a < k
 unfolding names
-fit-earlier k a Never w m = absurd (Memᴰ.not-nil m)
-fit-earlier k a (Input x) w m = absurd (Memᴰ.not-nil m)
-fit-earlier k a (Not b) w m = one_earlier k a b w m
-fit-earlier k a (And b c) w m = ⊎_elim (λ e. omega (arith, e, w.0)) (λ n. one_earlier k a c w.1 n) (Memᴰ.cases_cons m)
-fit-earlier k a (Or b c) w m = ⊎_elim (λ e. omega (arith, e, w.0)) (λ n. one_earlier k a c w.1 n) (Memᴰ.cases_cons m)
-fit-earlier k a (Exists b c e) w m = one_earlier k a b w.0 m
-fit-earlier k a (Forall b c e) w m = one_earlier k a b w.0 m
-fit-earlier k a (Gauge x) w m = absurd (Memᴰ.not-nil m)
+fit_earlier k a Never w m = absurd (Memᴰ.not-nil m)
+fit_earlier k a (Input x) w m = absurd (Memᴰ.not-nil m)
+fit_earlier k a (Not b) w m = one_earlier k a b w m
+fit_earlier k a (And b c) w m = ⊎_elim (λ e. omega (arith, e, w.0)) (λ n. one_earlier k a c w.1 n) (Memᴰ.cases_cons m)
+fit_earlier k a (Or b c) w m = ⊎_elim (λ e. omega (arith, e, w.0)) (λ n. one_earlier k a c w.1 n) (Memᴰ.cases_cons m)
+fit_earlier k a (Exists b c e) w m = one_earlier k a b w.0 m
+fit_earlier k a (Forall b c e) w m = one_earlier k a b w.0 m
+fit_earlier k a (Gauge x) w m = absurd (Memᴰ.not-nil m)
 
 fit-variable : (k x : ℕ) (d : Kind) → Fit variables k d → Reads d x → x < 32
 fit-variable k x d w q = ⊎_elim (λ e. subst (Fit variables k) e w) (λ e. subst (Fit variables k) e w) q
@@ -81,17 +81,17 @@ bound-ungauged b k x i j q = subst Ranged q (b.ranged k i j)
 
 -- kinds whose frames are in order and bind each variable of m once, none of them open in the last frame, make a sheet
 sheet-keeps : (ks : List Kind) (m : ℕ → Bool) → 1 ≤ length ks → length ks ≤ 200
-    → OrderedBelow (length ks) variables (kind (narrow (sheetBytes ks))) → Binds (kind (narrow (sheetBytes ks))) 0 (length ks) m
-    → ((v : ℕ) → m v ≡ true → free (formula (narrow (sheetBytes ks)) (length ks - 1)) v ≡ false) → Keeps (narrow (sheetBytes ks))
+    → OrderedBelow (length ks) variables (kind (narrow (sheet_bytes ks))) → Binds (kind (narrow (sheet_bytes ks))) 0 (length ks) m
+    → ((v : ℕ) → m v ≡ true → free (formula (narrow (sheet_bytes ks)) (length ks - 1)) v ≡ false) → Keeps (narrow (sheet_bytes ks))
 sheet-keeps ks m l u o b c = record {
   whole = omega (arith, sheet-length ks);
   least = omega (arith, n);
   most = omega (arith, n);
   known = λ k h. rw (sheet-fields ks k (rw n at h)) (fields-known (get_or ks k Never));
-  spare-a = λ k h i. rw (sheet-fields ks k (rw n at h)) ((fields-spare (get_or ks k Never)).0 (rw (sheet-kind ks k) at i));
-  spare-b = λ k h i. rw (sheet-fields ks k (rw n at h)) ((fields-spare (get_or ks k Never)).1 (rw (sheet-kind ks k) at i));
-  spare-c = λ k h i. rw (sheet-fields ks k (rw n at h)) ((fields-spare (get_or ks k Never)).2 (rw (sheet-kind ks k) at i));
-  earlier = λ k a h i. fit-earlier k a (kind s k) (o k (rw n at h)) i;
+  spare_a = λ k h i. rw (sheet-fields ks k (rw n at h)) ((fields-spare (get_or ks k Never)).0 (rw (sheet-kind ks k) at i));
+  spare_b = λ k h i. rw (sheet-fields ks k (rw n at h)) ((fields-spare (get_or ks k Never)).1 (rw (sheet-kind ks k) at i));
+  spare_c = λ k h i. rw (sheet-fields ks k (rw n at h)) ((fields-spare (get_or ks k Never)).2 (rw (sheet-kind ks k) at i));
+  earlier = λ k a h i. fit_earlier k a (kind s k) (o k (rw n at h)) i;
   variable = λ k x h e. fit-variable k x (kind s k) (o k (rw n at h)) e;
   range = λ k a x y h q. fit-range k a x y (kind s k) (o k (rw n at h)) (b.ranged k (omega arith) (rw n at h)) q;
   unmixed = λ j k x h i p q. bound-ungauged b k x (omega arith) (rw n at i) q;
@@ -101,7 +101,7 @@ sheet-keeps ks m l u o b c = record {
 }
   where
     s : Sheet
-    s = narrow (sheetBytes ks)
+    s = narrow (sheet_bytes ks)
 
     n : frames s ≡ length ks
     n = sheet-frames ks
@@ -109,27 +109,27 @@ sheet-keeps ks m l u o b c = record {
 -- ---- the matrix alone
 
 pub record SheetOfMatrix (cs : List Clause) : Type 0 where
-  pub ordered : Ordered variables (kind (narrow (sheetBytes (matrixKinds cs))))
-  pub least : 0 < frames (narrow (sheetBytes (matrixKinds cs)))
-  pub most : frames (narrow (sheetBytes (matrixKinds cs))) ≤ 200
-  pub unbound : (k v : ℕ) → k < frames (narrow (sheetBytes (matrixKinds cs))) → binds (kind (narrow (sheetBytes (matrixKinds cs))) k) v ≡ false
-  pub ungauged : gauges (narrow (sheetBytes (matrixKinds cs))) ≡ 0
-  pub truth-is : (σ : Assignment) → truth (formula (narrow (sheetBytes (matrixKinds cs))) (last (narrow (sheetBytes (matrixKinds cs))))) σ ≡ matrixTruth cs σ
-  pub free-is : (x : ℕ) → free (formula (narrow (sheetBytes (matrixKinds cs))) (last (narrow (sheetBytes (matrixKinds cs))))) x ≡ occurs cs x
+  pub ordered : Ordered variables (kind (narrow (sheet_bytes (matrix_kinds cs))))
+  pub least : 0 < frames (narrow (sheet_bytes (matrix_kinds cs)))
+  pub most : frames (narrow (sheet_bytes (matrix_kinds cs))) ≤ 200
+  pub unbound : (k v : ℕ) → k < frames (narrow (sheet_bytes (matrix_kinds cs))) → binds (kind (narrow (sheet_bytes (matrix_kinds cs))) k) v ≡ false
+  pub ungauged : gauges (narrow (sheet_bytes (matrix_kinds cs))) ≡ 0
+  pub truth-is : (σ : Assignment) → truth (formula (narrow (sheet_bytes (matrix_kinds cs))) (last (narrow (sheet_bytes (matrix_kinds cs))))) σ ≡ matrix_truth cs σ
+  pub free-is : (x : ℕ) → free (formula (narrow (sheet_bytes (matrix_kinds cs))) (last (narrow (sheet_bytes (matrix_kinds cs))))) x ≡ occurs cs x
 
-plain-ranged : {k : ℕ} {d : Kind} → Plain k d → Ranged d
-plain-ranged (plain-input h) = tt
-plain-ranged (plain-not h) = tt
-plain-ranged (plain-and h i) = tt
-plain-ranged (plain-or h i) = tt
+plain_ranged : {k : ℕ} {d : Kind} → Plain k d → Ranged d
+plain_ranged (plain-input h) = tt
+plain_ranged (plain-not h) = tt
+plain_ranged (plain-and h i) = tt
+plain_ranged (plain-or h i) = tt
 
 -- past the end there is Never
-sheet-ordered : (ks : List Kind) → OrderedBelow (length ks) variables (kind (narrow (sheetBytes ks))) → Ordered variables (kind (narrow (sheetBytes ks)))
+sheet-ordered : (ks : List Kind) → OrderedBelow (length ks) variables (kind (narrow (sheet_bytes ks))) → Ordered variables (kind (narrow (sheet_bytes ks)))
 sheet-ordered ks o = record {
   fit = λ k.
       by_bool (ltb k (length ks))
       (λ e. o k (omega tests))
-      (λ e. rw (kind-past (narrow (sheetBytes ks)) k (omega (tests, sheet-frames ks))) tt);
+      (λ e. rw (kind-past (narrow (sheet_bytes ks)) k (omega (tests, sheet-frames ks))) tt);
 }
 
 abbrev pub ClausesBelow : List Clause → Type 0
@@ -139,16 +139,16 @@ ClausesBelow cs = Every (SomeBelow (λ (l : Literal). l.variable) variables) cs
 pub clauses-below : {n : ℕ} {cs : List Clause} → n ≤ variables → Every (SomeBelow (λ (l : Literal). l.variable) n) cs → ClausesBelow cs
 clauses-below = every-wider
 
-pub matrix-sheet : (cs : List Clause) → 1 ≤ length cs → ClausesBelow cs → length (matrixKinds cs) ≤ 200 → SheetOfMatrix cs
+pub matrix-sheet : (cs : List Clause) → 1 ≤ length cs → ClausesBelow cs → length (matrix_kinds cs) ≤ 200 → SheetOfMatrix cs
 matrix-sheet cs l b u =
-    let n = sheet-frames (matrixKinds cs) in
-    let w = matrix-stands cs l b (sheet-has (matrixKinds cs)) in
+    let n = sheet-frames (matrix_kinds cs) in
+    let w = matrix-stands cs l b (sheet_has (matrix_kinds cs)) in
     record {
-      ordered = sheet-ordered (matrixKinds cs) w.ordered;
+      ordered = sheet-ordered (matrix_kinds cs) w.ordered;
       least = omega (arith, n, w.least);
       most = omega (arith, n);
       unbound = λ k v i. w.unbound k v (rw n at i);
-      ungauged = no-gauges (narrow (sheetBytes (matrixKinds cs))) (λ k i x e. subst Ranged e (plain-ranged (w.plain k (rw n at i))));
+      ungauged = no-gauges (narrow (sheet_bytes (matrix_kinds cs))) (λ k i x e. subst Ranged e (plain_ranged (w.plain k (rw n at i))));
       truth-is = λ σ. rw n (w.truth-is σ);
       free-is = λ x. rw n (w.free-is x);
     }
@@ -156,10 +156,10 @@ matrix-sheet cs l b u =
 -- ---- the question
 
 pub record SheetOf (q : Question) : Type 0 where
-  pub keeps : Keeps (narrow (sheetOf q))
-  pub ungauged : gauges (narrow (sheetOf q)) ≡ 0
-  pub truth-is : (σ : Assignment) → truth (formula (narrow (sheetOf q)) (last (narrow (sheetOf q)))) σ ≡ questionTruth q σ
-  pub free-is : (x : ℕ) → free (formula (narrow (sheetOf q)) (last (narrow (sheetOf q)))) x ≡ occurs q.clauses x && not (quantified q.blocks x)
+  pub keeps : Keeps (narrow (sheet_of q))
+  pub ungauged : gauges (narrow (sheet_of q)) ≡ 0
+  pub truth-is : (σ : Assignment) → truth (formula (narrow (sheet_of q)) (last (narrow (sheet_of q)))) σ ≡ question_truth q σ
+  pub free-is : (x : ℕ) → free (formula (narrow (sheet_of q)) (last (narrow (sheet_of q)))) x ≡ occurs q.clauses x && not (quantified q.blocks x)
 
 blocks-below : {n : ℕ} {bs : List Block} → n ≤ variables → Every (λ (b : Block). SomeBelow (λ (x : ℕ). x) n b.atoms) bs → BlocksBelow bs
 blocks-below h w = every_map (λ b x. every_map (λ y z. le_trans z h) x.below) w
@@ -167,49 +167,49 @@ blocks-below h w = every_map (λ b x. every_map (λ y z. le_trans z h) x.below) 
 -- frames that have the kinds of a question: what they mean, and what they bind
 module _ (κ : ℕ → Kind) (q : Question) (h : Has κ 0 (kinds q)) (matrix : MatrixStands κ q.clauses) (below : BlocksBelow q.blocks) where
   abbrev start : ℕ
-  start = length (matrixKinds q.clauses)
+  start = length (matrix_kinds q.clauses)
 
   abbrev prefix : List Kind
-  prefix = blockKinds q.blocks start
+  prefix = block_kinds q.blocks start
 
-  has-prefix : Has κ start prefix
+  has_prefix : Has κ start prefix
   unfolding kinds
-  has-prefix = subst (λ (i : ℕ). Has κ i prefix) (zero-add start) (has_right (matrixKinds q.clauses) prefix h)
+  has_prefix = subst (λ (i : ℕ). Has κ i prefix) (zero-add start) (has_right (matrix_kinds q.clauses) prefix h)
 
   end : start + length prefix ≡ length (kinds q)
   unfolding kinds
-  end = sym (length-append (matrixKinds q.clauses) prefix)
+  end = sym (length-append (matrix_kinds q.clauses) prefix)
 
-  question-stands : Stands κ (length (kinds q)) (questionTruth q) (λ x. occurs q.clauses x && not (quantified q.blocks x))
-  unfolding questionTruth
-  question-stands =
-      let first : Stands κ start (matrixTruth q.clauses) (occurs q.clauses) =
+  question_stands : Stands κ (length (kinds q)) (question_truth q) (λ x. occurs q.clauses x && not (quantified q.blocks x))
+  unfolding question_truth
+  question_stands =
+      let first : Stands κ start (matrix_truth q.clauses) (occurs q.clauses) =
       record { least = matrix.least; ordered = matrix.ordered; truth-is = matrix.truth-is; free-is = matrix.free-is } in
-      stands_same end (λ σ. refl) (λ x. refl) (stands-blocks below has-prefix first)
+      stands_same end (λ σ. refl) (λ x. refl) (stands-blocks below has_prefix first)
 
   -- the matrix binds nothing
-  question-binds : Distinct (allAtoms q.blocks) → Binds κ 0 (length (kinds q)) (quantified q.blocks)
-  question-binds o =
-      let none_before = binds-none κ 0 start (λ k i j. plain-ranged (matrix.plain k j)) (λ k v i j. matrix.unbound k v j) in
-      binds-same end (λ v. refl) (binds-join none_before (binds-blocks below o has-prefix) (λ v t. clash false t refl))
+  question_binds : Distinct (all_atoms q.blocks) → Binds κ 0 (length (kinds q)) (quantified q.blocks)
+  question_binds o =
+      let none_before = binds-none κ 0 start (λ k i j. plain_ranged (matrix.plain k j)) (λ k v i j. matrix.unbound k v j) in
+      binds-same end (λ v. refl) (binds-join none_before (binds-blocks below o has_prefix) (λ v t. clash false t refl))
 
-has-matrix : {κ : ℕ → Kind} (q : Question) → Has κ 0 (kinds q) → Has κ 0 (matrixKinds q.clauses)
+has_matrix : {κ : ℕ → Kind} (q : Question) → Has κ 0 (kinds q) → Has κ 0 (matrix_kinds q.clauses)
 unfolding kinds
-has-matrix q h = has_left (matrixKinds q.clauses) (blockKinds q.blocks (length (matrixKinds q.clauses))) h
+has_matrix q h = has_left (matrix_kinds q.clauses) (block_kinds q.blocks (length (matrix_kinds q.clauses))) h
 
-pub question-sheet : (q : Question) → Proper q → q.variables ≤ 32 → length (kinds q) ≤ 200 → SheetOf q
-unfolding sheetOf
-question-sheet q w l u =
-    let h = sheet-has (kinds q) in
+pub question_sheet : (q : Question) → Proper q → q.variables ≤ 32 → length (kinds q) ≤ 200 → SheetOf q
+unfolding sheet_of
+question_sheet q w l u =
+    let h = sheet_has (kinds q) in
     let n = sheet-frames (kinds q) in
     let below = blocks-below l w.blocks-below in
-    let matrix = matrix-stands q.clauses w.some-clause (clauses-below l w.clauses-below) (has-matrix q h) in
-    let whole = question-stands (kind (narrow (sheetOf q))) q h matrix below in
-    let bound = question-binds (kind (narrow (sheetOf q))) q h matrix below w.once in
+    let matrix = matrix-stands q.clauses w.some-clause (clauses-below l w.clauses-below) (has_matrix q h) in
+    let whole = question_stands (kind (narrow (sheet_of q))) q h matrix below in
+    let bound = question_binds (kind (narrow (sheet_of q))) q h matrix below w.once in
     record {
       keeps = sheet-keeps (kinds q) (quantified q.blocks) whole.least u whole.ordered bound
           (λ v t. whole.free-is v ∙ rw t (and-false (occurs q.clauses v)));
-      ungauged = no-gauges (narrow (sheetOf q)) (λ k i x e. bound-ungauged bound k x (omega arith) (rw n at i) e);
+      ungauged = no-gauges (narrow (sheet_of q)) (λ k i x e. bound-ungauged bound k x (omega arith) (rw n at i) e);
       truth-is = λ σ. rw n (whole.truth-is σ);
       free-is = λ x. rw n (whole.free-is x);
     }

@@ -8,10 +8,10 @@ use Rattle.std.proofs.Math.ListN.{length, length-map}
 use Rattle.words.specs.Logic.{by_bool, clash, tests}
 use Rattle.sheet.specs.declared.Kind.{Kind}
 use Rattle.sheet.specs.declared.Kind.TheVariants.{Input, And, Or}
-use Rattle.prenex.specs.Question.{Literal, Block, Clause, Question, someLiteral, someClause, occurs, member}
+use Rattle.prenex.specs.Question.{Literal, Block, Clause, Question, some_literal, some_clause, occurs, member}
 use Rattle.prenex.specs.Question.{Every, every-none, every_one, SomeBelow, Proper}
-use Rattle.prenex.specs.Kinds.{variables, having, chain, inputKinds, negationKinds, inputs, negations, literalFrame, literalKinds, clauseKinds, clauseEnds}
-use Rattle.prenex.specs.Kinds.{conjunctionKinds, disjunctionKinds, matrixKinds, Run, ended, runsFrom, runs, runKinds, blockKinds, kinds}
+use Rattle.prenex.specs.Kinds.{variables, having, chain, input_kinds, negation_kinds, inputs, negations, literal_frame, literal_kinds, clause_kinds, clause_ends}
+use Rattle.prenex.specs.Kinds.{conjunction_kinds, disjunction_kinds, matrix_kinds, Run, ended, runs_from, runs, run_kinds, block_kinds, kinds}
 use Rattle.prenex.specs.Code.{literals}
 use Rattle.prenex.specs.CodeLaws.{clauses-literals}
 use Rattle.prenex.specs.CountLaws.{having-length, count_less}
@@ -23,11 +23,11 @@ use Rattle.prenex.specs.Every.{every_map, every_first, every-wider, every_some, 
 
 -- the first literal's variable occurs
 first-occurs : (l : Literal) (c : Clause) (cs : List Clause) → occurs ((l ∷ c) ∷ cs) l.variable ≡ true
-unfolding occurs someClause someLiteral
+unfolding occurs some_clause some_literal
 first-occurs l c cs = rw (eq-eqb l.variable l.variable refl)
 
-some-input : (cs : List Clause) → 1 ≤ length cs → Every (SomeBelow (λ (l : Literal). l.variable) 32) cs → 1 ≤ length (inputKinds cs)
-unfolding inputKinds
+some-input : (cs : List Clause) → 1 ≤ length cs → Every (SomeBelow (λ (l : Literal). l.variable) 32) cs → 1 ≤ length (input_kinds cs)
+unfolding input_kinds
 some-input [] some e = absurd (omega (arith, some))
 some-input ([] ∷ cs) some (every_one s t) = absurd (omega (arith, s.some))
 some-input ((l ∷ c) ∷ cs) some (every_one s t) =
@@ -38,62 +38,62 @@ some-input ((l ∷ c) ∷ cs) some (every_one s t) =
 -- ---- clauses: one frame less than literals each, and their conjunction: one less than clauses
 
 module _ (f : Literal → ℕ) where
-  pub clause-kinds-length : (cs : List Clause) → Every (λ (c : Clause). 1 ≤ length c) cs → (n : ℕ) → length (clauseKinds f cs n) + length cs ≡ literals cs
-  unfolding clauseKinds literals
-  clause-kinds-length [] e n = refl
-  clause-kinds-length ([] ∷ cs) (every_one h t) n = absurd (omega (arith, h))
-  clause-kinds-length ((l ∷ ls) ∷ cs) (every_one h t) n =
-      rw (length-append (chain Or (f l) (map f ls) n) (clauseKinds f cs (n + length ls)), chain_length Or (f l) (map f ls) n, length-map ls f)
-      (omega (arith, clause-kinds-length cs t (n + length ls)))
+  pub clause_kinds-length : (cs : List Clause) → Every (λ (c : Clause). 1 ≤ length c) cs → (n : ℕ) → length (clause_kinds f cs n) + length cs ≡ literals cs
+  unfolding clause_kinds literals
+  clause_kinds-length [] e n = refl
+  clause_kinds-length ([] ∷ cs) (every_one h t) n = absurd (omega (arith, h))
+  clause_kinds-length ((l ∷ ls) ∷ cs) (every_one h t) n =
+      rw (length-append (chain Or (f l) (map f ls) n) (clause_kinds f cs (n + length ls)), chain_length Or (f l) (map f ls) n, length-map ls f)
+      (omega (arith, clause_kinds-length cs t (n + length ls)))
 
-  pub clause-ends-length : (cs : List Clause) → Every (λ (c : Clause). 1 ≤ length c) cs → (n : ℕ) → length (clauseEnds f cs n) ≡ length cs
-  unfolding clauseEnds
-  clause-ends-length [] e n = refl
-  clause-ends-length ([] ∷ cs) (every_one h t) n = absurd (omega (arith, h))
-  clause-ends-length ((l ∷ ls) ∷ cs) (every_one h t) n = ap suc (clause-ends-length cs t (n + length ls))
+  pub clause_ends-length : (cs : List Clause) → Every (λ (c : Clause). 1 ≤ length c) cs → (n : ℕ) → length (clause_ends f cs n) ≡ length cs
+  unfolding clause_ends
+  clause_ends-length [] e n = refl
+  clause_ends-length ([] ∷ cs) (every_one h t) n = absurd (omega (arith, h))
+  clause_ends-length ((l ∷ ls) ∷ cs) (every_one h t) n = ap suc (clause_ends-length cs t (n + length ls))
 
-pub conjunction-kinds-length : (ends : List ℕ) (n : ℕ) → length (conjunctionKinds ends n) ≡ length ends - 1
-unfolding conjunctionKinds
-conjunction-kinds-length [] n = refl
-conjunction-kinds-length (a ∷ others) n = chain_length And a others n ∙ omega arith
+pub conjunction_kinds-length : (ends : List ℕ) (n : ℕ) → length (conjunction_kinds ends n) ≡ length ends - 1
+unfolding conjunction_kinds
+conjunction_kinds-length [] n = refl
+conjunction_kinds-length (a ∷ others) n = chain_length And a others n ∙ omega arith
 
 -- ---- the matrix
 
-pub matrix-count : (cs : List Clause) → 1 ≤ length cs → Every (SomeBelow (λ (l : Literal). l.variable) 32) cs → literals cs ≤ length (matrixKinds cs)
-unfolding matrixKinds literalKinds disjunctionKinds
+pub matrix-count : (cs : List Clause) → 1 ≤ length cs → Every (SomeBelow (λ (l : Literal). l.variable) 32) cs → literals cs ≤ length (matrix_kinds cs)
+unfolding matrix_kinds literal_kinds disjunction_kinds
 matrix-count cs some e =
-    let f = literalFrame cs in
+    let f = literal_frame cs in
     let n = inputs cs + negations cs in
-    let ends = clauseEnds f cs n in
-    let clauses = (inputKinds cs ++ negationKinds cs) ++ clauseKinds f cs n in
+    let ends = clause_ends f cs n in
+    let clauses = (input_kinds cs ++ negation_kinds cs) ++ clause_kinds f cs n in
     rw (
-      length-append clauses (conjunctionKinds ends (length clauses)),
-      conjunction-kinds-length ends (length clauses),
-      clause-ends-length f cs (every_some e) n,
-      length-append (inputKinds cs ++ negationKinds cs) (clauseKinds f cs n),
-      length-append (inputKinds cs) (negationKinds cs),
+      length-append clauses (conjunction_kinds ends (length clauses)),
+      conjunction_kinds-length ends (length clauses),
+      clause_ends-length f cs (every_some e) n,
+      length-append (input_kinds cs ++ negation_kinds cs) (clause_kinds f cs n),
+      length-append (input_kinds cs) (negation_kinds cs),
     )
-    (omega (arith, some, some-input cs some e, clause-kinds-length f cs (every_some e) n, clauses-literals cs (every_some e)))
+    (omega (arith, some, some-input cs some e, clause_kinds-length f cs (every_some e) n, clauses-literals cs (every_some e)))
 
 -- ---- blocks: at least one run each
 
-runs-open : (p : ℕ → Bool) (x c n : ℕ) → 0 < c → 1 ≤ length (runsFrom p x c n)
-unfolding runsFrom
-runs-open p x c zero h = rw (ne_eqb c 0 (omega (arith, h))) (omega arith)
-runs-open p x c (suc n) h =
+runs_open : (p : ℕ → Bool) (x c n : ℕ) → 0 < c → 1 ≤ length (runs_from p x c n)
+unfolding runs_from
+runs_open p x c zero h = rw (ne_eqb c 0 (omega (arith, h))) (omega arith)
+runs_open p x c (suc n) h =
     by_bool (p x)
-    (λ e. rw e (runs-open p (suc x) (suc c) n (omega arith)))
+    (λ e. rw e (runs_open p (suc x) (suc c) n (omega arith)))
     (λ e. rw (e, ne_eqb c 0 (omega (arith, h))) (omega arith))
 
-runs-some : (p : ℕ → Bool) (x c n k : ℕ) → x ≤ k → k < x + n → p k ≡ true → 1 ≤ length (runsFrom p x c n)
-unfolding runsFrom
+runs-some : (p : ℕ → Bool) (x c n k : ℕ) → x ≤ k → k < x + n → p k ≡ true → 1 ≤ length (runs_from p x c n)
+unfolding runs_from
 runs-some p x c zero k le lt t = absurd (omega (arith, le, lt))
 runs-some p x c (suc n) k le lt t =
     by_bool (p x)
-    (λ e. rw e (runs-open p (suc x) (suc c) n (omega arith)))
+    (λ e. rw e (runs_open p (suc x) (suc c) n (omega arith)))
     (λ e. by_bool (eqb x k)
     (λ same. clash (p k) t (rw (← eqb-true x k same) e))
-    (λ other. rw (e, length-append (ended x c) (runsFrom p (suc x) 0 n))
+    (λ other. rw (e, length-append (ended x c) (runs_from p (suc x) 0 n))
     (omega (arith, runs-some p (suc x) 0 n k (omega (tests, le, other)) (omega (arith, lt)) t))))
 
 first_member : (x : ℕ) (xs : List ℕ) → member (x ∷ xs) x ≡ true
@@ -107,26 +107,26 @@ some-run (x ∷ xs) s =
     let lt = every_first s.below in
     runs-some (member (x ∷ xs)) 0 0 variables x (omega arith) (omega (arith, lt)) (first_member x xs)
 
-pub block-count : (bs : List Block) → Every (λ (b : Block). SomeBelow (λ (x : ℕ). x) 32 b.atoms) bs → (n : ℕ) → length bs ≤ length (blockKinds bs n)
-unfolding blockKinds
-block-count bs every-none n = omega arith
-block-count bs (every_one {a = b} {l = ds} s t) n =
-    let m = n + length (blockKinds ds n) in
+pub block_count : (bs : List Block) → Every (λ (b : Block). SomeBelow (λ (x : ℕ). x) 32 b.atoms) bs → (n : ℕ) → length bs ≤ length (block_kinds bs n)
+unfolding block_kinds
+block_count bs every-none n = omega arith
+block_count bs (every_one {a = b} {l = ds} s t) n =
+    let m = n + length (block_kinds ds n) in
     let rs = runs (member b.atoms) in
-    rw (length-append (blockKinds ds n) (runKinds b.exists rs m), run-kinds-length b.exists rs m)
-    (omega (arith, some-run b.atoms s, block-count ds t n))
+    rw (length-append (block_kinds ds n) (run_kinds b.exists rs m), run-kinds-length b.exists rs m)
+    (omega (arith, some-run b.atoms s, block_count ds t n))
 
 -- ---- the question
 
-pub kinds-length : (q : Question) → length (kinds q) ≡ length (matrixKinds q.clauses) + length (blockKinds q.blocks (length (matrixKinds q.clauses)))
+pub kinds-length : (q : Question) → length (kinds q) ≡ length (matrix_kinds q.clauses) + length (block_kinds q.blocks (length (matrix_kinds q.clauses)))
 unfolding kinds
-kinds-length q = length-append (matrixKinds q.clauses) (blockKinds q.blocks (length (matrixKinds q.clauses)))
+kinds-length q = length-append (matrix_kinds q.clauses) (block_kinds q.blocks (length (matrix_kinds q.clauses)))
 
 module _ {q : Question} (P : Proper q) (le : q.variables ≤ 32) where
-  pub many-literals : 200 < literals q.clauses → 200 < length (kinds q)
-  many-literals more = omega (arith, more, kinds-length q, matrix-count q.clauses P.some-clause (every-wider le P.clauses-below))
+  pub many_literals : 200 < literals q.clauses → 200 < length (kinds q)
+  many_literals more = omega (arith, more, kinds-length q, matrix-count q.clauses P.some-clause (every-wider le P.clauses-below))
 
-  pub many-blocks : 200 < length q.blocks → 200 < length (kinds q)
-  many-blocks more =
-      let n = length (matrixKinds q.clauses) in
-      omega (arith, more, kinds-length q, block-count q.blocks (every_map (λ (b : Block). below_wider le) P.blocks-below) n)
+  pub many_blocks : 200 < length q.blocks → 200 < length (kinds q)
+  many_blocks more =
+      let n = length (matrix_kinds q.clauses) in
+      omega (arith, more, kinds-length q, block_count q.blocks (every_map (λ (b : Block). below_wider le) P.blocks-below) n)

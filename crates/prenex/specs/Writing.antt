@@ -3,16 +3,16 @@ use Rattle.std.specs.Prelude.{ℕ, ◌+◌, ◌-◌, ◌*◌, ◌≤◌, Bool, c
 use Rattle.std.proofs.lemmas.List.Edits.{sets}
 use Rattle.words.specs.Word.{bit}
 use Rattle.prenex.specs.Question.{Literal}
-use Rattle.prenex.specs.Kinds.{clauseKinds, clauseEnds, sheetBytes}
-use Rattle.prenex.specs.Code.{literalOf, clausesOf}
+use Rattle.prenex.specs.Kinds.{clause_kinds, clause_ends, sheet_bytes}
+use Rattle.prenex.specs.Code.{literal_of, clauses_of}
 use Rattle.prenex.specs.declared.literal.Occurring.{Occurring}
 use Rattle.prenex.specs.declared.clause.Chained.{Chained}
 use Rattle.prenex.specs.declared.clause.Link.{Link}
 
 -- the words with the literal of a code added
 pub record With (found : Occurring) (code : ℕ) (r : Occurring) : Type 0 where
-  pub all-is : (x : ℕ) → bit r.all x ≡ bit found.all x || eqb x (literalOf code).variable
-  pub negated-is : (x : ℕ) → bit r.negated x ≡ bit found.negated x || ((literalOf code).negative && eqb x (literalOf code).variable)
+  pub all-is : (x : ℕ) → bit r.all x ≡ bit found.all x || eqb x (literal_of code).variable
+  pub negated-is : (x : ℕ) → bit r.negated x ≡ bit found.negated x || ((literal_of code).negative && eqb x (literal_of code).variable)
 
 -- a literal's frame joined to the chain at a frame, or the first of a chain
 pub record Linked (first : Bool) (at member n : ℕ) (out : List ℕ) (r : Link) (out' : List ℕ) : Type 0 where
@@ -26,10 +26,10 @@ pub record Members (n : ℕ) (l : List ℕ) : Type 0 where
 
 -- the chains of clauses from frame n on, with f for the frames of literals, and the frames that they end with
 pub record Clauses (codes : List ℕ) (f : Literal → ℕ) (n : ℕ) (out ends : List ℕ) (r : Chained) (out' ends' : List ℕ) : Type 0 where
-  pub frames-is : r.frames ≡ n + length (clauseKinds f (clausesOf codes) n)
+  pub frames-is : r.frames ≡ n + length (clause_kinds f (clauses_of codes) n)
   pub frames-few : r.frames ≤ n + length codes
-  pub ends_is : r.ends ≡ length (clauseEnds f (clausesOf codes) n)
+  pub ends_is : r.ends ≡ length (clause_ends f (clauses_of codes) n)
   pub ends-few : r.ends ≤ length codes
-  pub members : Members r.frames (clauseEnds f (clausesOf codes) n)
-  pub bytes : out' ≡ sets out (n * 4) (sheetBytes (clauseKinds f (clausesOf codes) n))
-  pub stored : ends' ≡ sets ends 0 (clauseEnds f (clausesOf codes) n)
+  pub members : Members r.frames (clause_ends f (clauses_of codes) n)
+  pub bytes : out' ≡ sets out (n * 4) (sheet_bytes (clause_kinds f (clauses_of codes) n))
+  pub stored : ends' ≡ sets ends 0 (clause_ends f (clauses_of codes) n)

@@ -2,8 +2,8 @@
 ghost use Rattle.std.specs.Prelude.{◌≡◌, cond, ◌+◌, ◌*◌, ◌≤◌, ◌<◌, length};
 ghost use Rattle.std.proofs.lemmas.List.Edits.{sets};
 ghost use Rattle.words.specs.Word.{bit};
-ghost use Rattle.prenex.specs.Kinds.{ended, runs, runKinds, sheetBytes};
-ghost use Rattle.prenex.specs.Code.{wordKinds};
+ghost use Rattle.prenex.specs.Kinds.{ended, runs, run_kinds, sheet_bytes};
+ghost use Rattle.prenex.specs.Code.{word_kinds};
 
 use crate::frame;
 use crate::literal::VARIABLES;
@@ -21,7 +21,7 @@ fn code(exists: bool) -> u8
 // Writes the quantifier of the c variables before x over the frame before n, if there are any, and says how many frames there are then.
 fn write_run(exists: bool, x: u8, c: u8, n: usize, out: &mut [u8]) -> usize
     requires { (c ≤ x) × (x ≤ 32) × (1 ≤ n) × (n ≤ 10000) × (length out.old ≡ 800) }
-    ensures { (result ≡ n + length (ended x c)) × (result ≤ n + 1) × (out.new ≡ sets out.old (n * 4) (sheetBytes (runKinds exists (ended x c) n))) }
+    ensures { (result ≡ n + length (ended x c)) × (result ≤ n + 1) × (out.new ≡ sets out.old (n * 4) (sheet_bytes (run_kinds exists (ended x c) n))) }
 {
     if c == 0 {
         return n;
@@ -33,7 +33,7 @@ fn write_run(exists: bool, x: u8, c: u8, n: usize, out: &mut [u8]) -> usize
 // Writes the quantifiers of a block.
 fn write_runs(exists: bool, word: u32, n: usize, out: &mut [u8]) -> usize
     requires { (1 ≤ n) × (n ≤ 9000) × (length out.old ≡ 800) }
-    ensures { (result ≡ n + length (runs (bit word))) × (result ≤ n + 33) × (out.new ≡ sets out.old (n * 4) (sheetBytes (runKinds exists (runs (bit word)) n))) }
+    ensures { (result ≡ n + length (runs (bit word))) × (result ≤ n + 33) × (out.new ≡ sets out.old (n * 4) (sheet_bytes (run_kinds exists (runs (bit word)) n))) }
 {
     let mut to = n;
     let mut c: u8 = 0;
@@ -53,7 +53,7 @@ fn write_runs(exists: bool, word: u32, n: usize, out: &mut [u8]) -> usize
 // Writes the quantifiers of all blocks from frame n on, and says how many frames there are then.
 pub fn write(words: &[u32], n: usize, out: &mut [u8]) -> usize
     requires { (1 ≤ n) × (n ≤ 864) × (length words.now ≤ 200) × (length out.old ≡ 800) }
-    ensures { (result ≡ n + length (wordKinds words.now n)) × (out.new ≡ sets out.old (n * 4) (sheetBytes (wordKinds words.now n))) }
+    ensures { (result ≡ n + length (word_kinds words.now n)) × (out.new ≡ sets out.old (n * 4) (sheet_bytes (word_kinds words.now n))) }
 {
     let mut to = n;
     let mut exists = true;

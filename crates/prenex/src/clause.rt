@@ -2,8 +2,8 @@
 ghost use Rattle.std.specs.Prelude.{◌≡◌, ◌+◌, ◌-◌, ◌*◌, ◌≤◌, ◌<◌, length, take, set};
 ghost use Rattle.std.proofs.lemmas.List.Edits.{sets};
 ghost use Rattle.words.specs.Word.{bit};
-ghost use Rattle.prenex.specs.Kinds.{conjunctionKinds, frameBy, sheetBytes};
-ghost use Rattle.prenex.specs.Code.{Codes, clausesOf, allOpposed};
+ghost use Rattle.prenex.specs.Kinds.{conjunction_kinds, frame_by, sheet_bytes};
+ghost use Rattle.prenex.specs.Code.{Codes, clauses_of, all_opposed};
 ghost use Rattle.prenex.specs.Writing.{Linked, Members, Clauses};
 
 use crate::{frame, literal};
@@ -60,7 +60,7 @@ pub fn write_clauses(
     ends: &mut [usize],
 ) -> Chained
     requires { Codes codes.now × (length codes.now ≤ 400) × (literals ≤ 64) × (length out.old ≡ 800) }
-    ensures { Clauses codes.now (frameBy (bit all) (bit negated)) literals out.old ends.old result out.new ends.new }
+    ensures { Clauses codes.now (frame_by (bit all) (bit negated)) literals out.old ends.old result out.new ends.new }
 {
     let mut n = literals;
     let mut k: usize = 0;
@@ -95,7 +95,7 @@ pub fn write_clauses(
 // Writes the chain over the first `count` numbers from frame n on, and says how many frames there are then.
 pub fn write_conjunction(numbers: &[usize], count: usize, n: usize, out: &mut [u8]) -> usize
     requires { (count ≤ length numbers.now) × (count ≤ 400) × (n ≤ 464) × (length out.old ≡ 800) × Members n (take count numbers.now) }
-    ensures { (result ≡ n + length (conjunctionKinds (take count numbers.now) n)) × (result ≤ n + count) × (out.new ≡ sets out.old (n * 4) (sheetBytes (conjunctionKinds (take count numbers.now) n))) }
+    ensures { (result ≡ n + length (conjunction_kinds (take count numbers.now) n)) × (result ≤ n + count) × (out.new ≡ sets out.old (n * 4) (sheet_bytes (conjunction_kinds (take count numbers.now) n))) }
 {
     let mut to = n;
     let mut at: usize = 0;
@@ -119,7 +119,7 @@ pub fn write_conjunction(numbers: &[usize], count: usize, n: usize, out: &mut [u
 // Whether each clause has a literal and its opposite, and so is always true.
 pub fn all_opposed(codes: &[u8]) -> bool
     requires { Codes codes.now }
-    ensures { result ≡ allOpposed (clausesOf codes.now) }
+    ensures { result ≡ all_opposed (clauses_of codes.now) }
 {
     let mut positive: u32 = 0;
     let mut negative: u32 = 0;

@@ -7,8 +7,8 @@ mod literal;
 
 ghost use Rattle.std.specs.Prelude.{◌≡◌, ◌++◌, ◌+◌, ◌*◌, ◌≤◌, length};
 ghost use Rattle.std.proofs.lemmas.List.Edits.{sets};
-ghost use Rattle.prenex.specs.Kinds.{matrixKinds, sheetBytes};
-ghost use Rattle.prenex.specs.Code.{Codes, clausesOf, wordKinds};
+ghost use Rattle.prenex.specs.Kinds.{matrix_kinds, sheet_bytes};
+ghost use Rattle.prenex.specs.Code.{Codes, clauses_of, word_kinds};
 
 pub use clause::all_opposed;
 pub use literal::{Occurring, find_occurring};
@@ -24,7 +24,7 @@ pub const SHEET_BYTES: usize = frame::MOST * frame::BYTES;
 // Writes the frames of the matrix, and says how many they are. Those past the room are counted and not written.
 pub fn write_matrix(codes: &[u8], out: &mut [u8]) -> usize
     requires { Codes codes.now × (length codes.now ≤ 400) × (length out.old ≡ 800) }
-    ensures { (result ≡ length (matrixKinds (clausesOf codes.now))) × (result ≤ 864) × (out.new ≡ sets out.old 0 (sheetBytes (matrixKinds (clausesOf codes.now)))) }
+    ensures { (result ≡ length (matrix_kinds (clauses_of codes.now))) × (result ≤ 864) × (out.new ≡ sets out.old 0 (sheet_bytes (matrix_kinds (clauses_of codes.now)))) }
 {
     let found = find_occurring(codes);
     let inputs = literal::write_inputs(found.all, out);
@@ -37,7 +37,7 @@ pub fn write_matrix(codes: &[u8], out: &mut [u8]) -> usize
 // Writes the frames of the quantifiers behind those of the matrix, and says how many frames there are then.
 pub fn write_blocks(masks: &[u32], matrix: usize, out: &mut [u8]) -> usize
     requires { (1 ≤ matrix) × (matrix ≤ 864) × (length masks.now ≤ 200) × (length out.old ≡ 800) }
-    ensures { (result ≡ matrix + length (wordKinds masks.now matrix)) × (out.new ≡ sets out.old (matrix * 4) (sheetBytes (wordKinds masks.now matrix))) }
+    ensures { (result ≡ matrix + length (word_kinds masks.now matrix)) × (out.new ≡ sets out.old (matrix * 4) (sheet_bytes (word_kinds masks.now matrix))) }
 {
     block::write(masks, matrix, out)
 }

@@ -4,8 +4,8 @@ ghost use Rattle.std.proofs.lemmas.List.Edits.{sets};
 ghost use Rattle.words.specs.Word.{bit};
 ghost use Rattle.sheet.specs.declared.Kind.TheVariants.{Input, Not};
 ghost use Rattle.prenex.specs.Question.{occurs, negated};
-ghost use Rattle.prenex.specs.Kinds.{having, count, frameBy, sheetBytes};
-ghost use Rattle.prenex.specs.Code.{Codes, literalOf, clausesOf};
+ghost use Rattle.prenex.specs.Kinds.{having, count, frame_by, sheet_bytes};
+ghost use Rattle.prenex.specs.Code.{Codes, literal_of, clauses_of};
 ghost use Rattle.prenex.specs.Writing.{With};
 
 use crate::frame;
@@ -24,14 +24,14 @@ pub struct Occurring {
 // The variable of a literal's code, and whether it is negated.
 pub fn variable(code: u8) -> u8
     requires { 0 < code }
-    ensures { result ≡ (literalOf code).variable }
+    ensures { result ≡ (literal_of code).variable }
 {
     (code - 1) / 2
 }
 
 pub fn negative(code: u8) -> bool
     requires { 0 < code }
-    ensures { result ≡ (literalOf code).negative }
+    ensures { result ≡ (literal_of code).negative }
 {
     (code - 1) % 2 == 1
 }
@@ -57,7 +57,7 @@ fn with_literal(found: Occurring, code: u8) -> Occurring
 // Which variables occur in clauses.
 pub fn find_occurring(codes: &[u8]) -> Occurring
     requires { Codes codes.now }
-    ensures { (bit result.all ≡ occurs (clausesOf codes.now)) × (bit result.negated ≡ negated (clausesOf codes.now)) }
+    ensures { (bit result.all ≡ occurs (clauses_of codes.now)) × (bit result.negated ≡ negated (clauses_of codes.now)) }
 {
     let mut found = Occurring { all: 0, negated: 0 };
     let mut i: usize = 0;
@@ -90,7 +90,7 @@ pub fn rank(word: u32, x: u8) -> usize
 // Writes the inputs from frame 0 on, and says how many.
 pub fn write_inputs(all: u32, out: &mut [u8]) -> usize
     requires { length out.old ≡ 800 }
-    ensures { (result ≡ count (bit all) 0 32) × (result ≤ 32) × (out.new ≡ sets out.old 0 (sheetBytes (map Input (having (bit all) 0 32)))) }
+    ensures { (result ≡ count (bit all) 0 32) × (result ≤ 32) × (out.new ≡ sets out.old 0 (sheet_bytes (map Input (having (bit all) 0 32)))) }
 {
     let mut n: usize = 0;
     let mut x: u8 = 0;
@@ -107,7 +107,7 @@ pub fn write_inputs(all: u32, out: &mut [u8]) -> usize
 // Writes the negations behind the inputs, and says how many frames there are then.
 pub fn write_negations(all: u32, negated: u32, inputs: usize, out: &mut [u8]) -> usize
     requires { (inputs ≤ 32) × (length out.old ≡ 800) }
-    ensures { (result ≡ inputs + count (bit negated) 0 32) × (result ≤ inputs + 32) × (out.new ≡ sets out.old (inputs * 4) (sheetBytes (map (λ x. Not (count (bit all) 0 x)) (having (bit negated) 0 32)))) }
+    ensures { (result ≡ inputs + count (bit negated) 0 32) × (result ≤ inputs + 32) × (out.new ≡ sets out.old (inputs * 4) (sheet_bytes (map (λ x. Not (count (bit all) 0 x)) (having (bit negated) 0 32)))) }
 {
     let mut n = inputs;
     let mut x: u8 = 0;
@@ -124,7 +124,7 @@ pub fn write_negations(all: u32, negated: u32, inputs: usize, out: &mut [u8]) ->
 // The frame of a literal.
 pub fn literal_frame(all: u32, negated: u32, code: u8) -> usize
     requires { (0 < code) × (code ≤ 64) }
-    ensures { (result ≡ frameBy (bit all) (bit negated) (literalOf code)) × (result ≤ 64) }
+    ensures { (result ≡ frame_by (bit all) (bit negated) (literal_of code)) × (result ≤ 64) }
 {
     let x = variable(code);
     if negative(code) {

@@ -5,9 +5,9 @@ use Rattle.words.specs.Word.{bit}
 use Rattle.formula.specs.Assignment.{Assignment, On}
 use Rattle.formula.specs.Formula.{Formula, truth, free}
 use Rattle.net.specs.Net.{Node, Fixed, Reads, Flips, Joins, Binds, meaning}
-use Rattle.net.specs.Layout.{netForm, packed, changed}
+use Rattle.net.specs.Layout.{net_form, packed, changed}
 use Rattle.form.specs.declared.Form.{Form}
-use Rattle.records.specs.Table.{frame_at, maskAt, valuesAt}
+use Rattle.records.specs.Table.{frame_at, mask_at, values_at}
 use Rattle.proxies.specs.Kept.{Noted}
 use Rattle.proxies.specs.Told.{Told}
 
@@ -32,13 +32,13 @@ pub record Agreeing (F : Form) (t : List ℕ) (count b : ℕ) (σ : Assignment) 
   pub at : ℕ
   pub counted : at < count
   pub frame : frame_at F t at ≡ b
-  pub agrees : On (bit (maskAt F t at)) σ (bit (valuesAt F t at))
+  pub agrees : On (bit (mask_at F t at)) σ (bit (values_at F t at))
 
 -- b.p ⇒ b.O and ¬b.p ⇒ ¬b.U, of every b that is not changed: of a changed one no record is used. (The proxies of quantifiers that are no children do not
 -- occur in F.)
 pub record Allowed (net u : List ℕ) (cu : ℕ) (o : List ℕ) (co : ℕ) (σ : Assignment) : Type 0 where
-  pub true-proxy : (b : ℕ) → changed net b ≡ false → σ (proxy b) ≡ true → Agreeing (netForm net) o co b σ → ⊥
-  pub false-proxy : (b : ℕ) → changed net b ≡ false → σ (proxy b) ≡ false → Agreeing (netForm net) u cu b σ → ⊥
+  pub true-proxy : (b : ℕ) → changed net b ≡ false → σ (proxy b) ≡ true → Agreeing (net_form net) o co b σ → ⊥
+  pub false-proxy : (b : ℕ) → changed net b ≡ false → σ (proxy b) ≡ false → Agreeing (net_form net) u cu b σ → ⊥
 
 -- L: σ, which has values for the variables and the proxies, gives F the truth that is looked for, and is allowed
 pub record L (net u : List ℕ) (cu : ℕ) (o : List ℕ) (co a : ℕ) (target : Bool) (σ : Assignment) : Type 0 where
@@ -48,8 +48,8 @@ pub record L (net u : List ℕ) (cu : ℕ) (o : List ℕ) (co a : ℕ) (target :
 -- L': the same with b.p ⇒ b.U and ¬b.p ⇒ ¬b.O, of every child b
 pub record L' (net u : List ℕ) (cu : ℕ) (o : List ℕ) (co a : ℕ) (target : Bool) (σ : Assignment) : Type 0 where
   pub holds : truth (body net a) σ ≡ target
-  pub true-proxy : (b : ℕ) → free (body net a) (proxy b) ≡ true → σ (proxy b) ≡ true → Agreeing (netForm net) u cu b σ
-  pub false-proxy : (b : ℕ) → free (body net a) (proxy b) ≡ true → σ (proxy b) ≡ false → Agreeing (netForm net) o co b σ
+  pub true-proxy : (b : ℕ) → free (body net a) (proxy b) ≡ true → σ (proxy b) ≡ true → Agreeing (net_form net) u cu b σ
+  pub false-proxy : (b : ℕ) → free (body net a) (proxy b) ≡ true → σ (proxy b) ≡ false → Agreeing (net_form net) o co b σ
 
 -- a child whose value is known: what `quantified` ensures of the child b, a frame that is not changed, when it is checked under the candidate w, of which the
 -- variables of m are set
@@ -57,4 +57,4 @@ pub record Settled (net : List ℕ) (m w : ℕ) (u : List ℕ) (cu : ℕ) (o : L
   pub value : ℕ
   pub reason : ℕ
   pub told : Told net m w b value reason
-  pub noted : Noted (netForm net) b value w u cu o co
+  pub noted : Noted (net_form net) b value w u cu o co

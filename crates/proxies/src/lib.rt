@@ -3,8 +3,8 @@
 ghost use Rattle.std.specs.Prelude.{◌≡◌, false, List, ℕ, ◌%◌, ◌<◌, ◌≤◌, length};
 ghost use Rattle.words.specs.Word.{bit};
 ghost use Rattle.formula.specs.Reason.{Explains};
-ghost use Rattle.form.specs.Form.{recordStart, wordEnd};
-ghost use Rattle.net.specs.Layout.{Ground, netForm, framesOf, changed, formulaAt, val};
+ghost use Rattle.form.specs.Form.{record_start, word_end};
+ghost use Rattle.net.specs.Layout.{Ground, net_form, frames_of, changed, formula_at, val};
 ghost use Rattle.proxies.specs.Growing.{Growing};
 ghost use Rattle.proxies.specs.Kept as Kept;
 ghost use Rattle.proxies.specs.Kept.{Recorded, RecordedNode, Noted, Shown};
@@ -28,7 +28,7 @@ fn all(form: Form) -> u64
 
 // The part of a word that records speak of: in a wide one all of it.
 pub fn low(form: Form, word: u64) -> u64
-    ensures { result ≡ word % wordEnd form }
+    ensures { result ≡ word % word_end form }
 {
     match form {
         Form::Narrow => word % 4294967296,
@@ -45,7 +45,7 @@ fn recorded_frame(
     over: &[u32],
     kept: Counts,
 ) -> Known
-    requires { (frame < 4096) × (recordStart form kept.under ≤ length under.now) × (recordStart form kept.over ≤ length over.now) }
+    requires { (frame < 4096) × (record_start form kept.under ≤ length under.now) × (record_start form kept.over ≤ length over.now) }
     ensures { Recorded form frame word under.now kept.under over.now kept.over result.value result.reason }
 {
     let setting = low(form, word);
@@ -79,7 +79,7 @@ pub fn recorded(
     over: &[u32],
     kept: Counts,
 ) -> Known
-    requires { Ground net.now × (recordStart (netForm net.now) kept.under ≤ length under.now) × (recordStart (netForm net.now) kept.over ≤ length over.now) }
+    requires { Ground net.now × (record_start (net_form net.now) kept.under ≤ length under.now) × (record_start (net_form net.now) kept.over ≤ length over.now) }
     ensures { RecordedNode net.now i word under.now kept.under over.now kept.over result.value result.reason }
 {
     if i < net::frames(net) {
@@ -120,8 +120,8 @@ fn note_frame(
     over: &mut [u32],
     kept: Counts,
 ) -> Counts
-    requires { (frame < 4096) × (recordStart form kept.under ≤ length under.old) × (recordStart form kept.over ≤ length over.old) × (0 < known.value) × (known.value < 3) }
-    ensures { (net : List ℕ) → Ground net → form ≡ netForm net → frame < framesOf net → changed net frame ≡ false → Explains (formulaAt net frame) (val known.value) (bit known.reason) (bit word) → Growing net under.old kept.under over.old kept.over under.new result.under over.new result.over × Noted (netForm net) frame known.value word under.new result.under over.new result.over }
+    requires { (frame < 4096) × (record_start form kept.under ≤ length under.old) × (record_start form kept.over ≤ length over.old) × (0 < known.value) × (known.value < 3) }
+    ensures { (net : List ℕ) → Ground net → form ≡ net_form net → frame < frames_of net → changed net frame ≡ false → Explains (formula_at net frame) (val known.value) (bit known.reason) (bit word) → Growing net under.old kept.under over.old kept.over under.new result.under over.new result.over × Noted (net_form net) frame known.value word under.new result.under over.new result.over }
 {
     let mask = low(form, known.reason);
     let values = low(form, word & known.reason);
@@ -149,8 +149,8 @@ pub fn note(
     over: &mut [u32],
     kept: Counts,
 ) -> Counts
-    requires { Ground net.now × (recordStart (netForm net.now) kept.under ≤ length under.old) × (recordStart (netForm net.now) kept.over ≤ length over.old) × (0 < known.value) × (known.value < 3) }
-    ensures { Explains (formulaAt net.now i) (val known.value) (bit known.reason) (bit word) → Growing net.now under.old kept.under over.old kept.over under.new result.under over.new result.over × (i < framesOf net.now → changed net.now i ≡ false → Noted (netForm net.now) i known.value word under.new result.under over.new result.over) }
+    requires { Ground net.now × (record_start (net_form net.now) kept.under ≤ length under.old) × (record_start (net_form net.now) kept.over ≤ length over.old) × (0 < known.value) × (known.value < 3) }
+    ensures { Explains (formula_at net.now i) (val known.value) (bit known.reason) (bit word) → Growing net.now under.old kept.under over.old kept.over under.new result.under over.new result.over × (i < frames_of net.now → changed net.now i ≡ false → Noted (net_form net.now) i known.value word under.new result.under over.new result.over) }
 {
     if i >= net::frames(net) {
         return kept;

@@ -8,19 +8,19 @@ use Rattle.words.specs.Logic.{clash}
 use Rattle.words.specs.Stores.{sets-start}
 use Rattle.sheet.specs.declared.Kind.{Kind}
 use Rattle.prenex.specs.Question.{Question, Proper, Contingent}
-use Rattle.prenex.specs.Kinds.{kinds, matrixKinds, blockKinds, sheetBytes, sheetOf}
-use Rattle.prenex.specs.Code.{Codes, clausesOf, codes_of, literals, wordKinds}
+use Rattle.prenex.specs.Kinds.{kinds, matrix_kinds, block_kinds, sheet_bytes, sheet_of}
+use Rattle.prenex.specs.Code.{Codes, clauses_of, codes_of, literals, word_kinds}
 use Rattle.prenex.specs.Every.{every_some}
-use Rattle.prenex.specs.CodeLaws.{Words, clauses-codes, codes-length, clauses-literals, words-length, words-kinds}
+use Rattle.prenex.specs.CodeLaws.{Words, clauses_codes, codes_length, clauses-literals, words_length, words_kinds}
 use Rattle.prenex.specs.CodeLaws as Encoded
-use Rattle.prenex.specs.SheetLaws.{sheet-length, sheet-append, sheet-has}
-use Rattle.prenex.specs.StoreLaws.{store-append}
-use Rattle.prenex.specs.SizeLaws.{many-literals, many-blocks, kinds-length}
+use Rattle.prenex.specs.SheetLaws.{sheet-length, sheet_append, sheet_has}
+use Rattle.prenex.specs.StoreLaws.{store_append}
+use Rattle.prenex.specs.SizeLaws.{many_literals, many_blocks, kinds-length}
 use Rattle.prenex.specs.MatrixLaws.{matrix-stands}
 use Rattle.prenex.specs.QuestionLaws.{clauses-below}
 use Rattle.dimacs.specs.Page.{page}
-use Rattle.dimacs.specs.Row.{header, codesFrom, wordsFrom}
-use Rattle.dimacs.specs.RowLaws.{codes-page, words-page}
+use Rattle.dimacs.specs.Row.{header, codes_from, words_from}
+use Rattle.dimacs.specs.RowLaws.{codes_page, words_page}
 use Rattle.dimacs.specs.declared.token.Token.{Token}
 use Rattle.qdimacs.specs.Reading.{Arranged, Arrays, Builds}
 use Rattle.qdimacs.specs.MatrixAsked.{Matrix, Judged}
@@ -28,8 +28,8 @@ use Rattle.qdimacs.specs.declared.build.Built.{Built}
 
 -- ---- too many frames
 
-pub builds-large : {q : Question} {frames frames' : List ℕ} {r : Built} → r.large ≡ true → 200 < length (kinds q) → Builds q frames r frames'
-builds-large {r = r} e h = record {
+pub builds_large : {q : Question} {frames frames' : List ℕ} {r : Built} → r.large ≡ true → 200 < length (kinds q) → Builds q frames r frames'
+builds_large {r = r} e h = record {
   large = λ t. h;
   small = λ t. clash r.large e t;
   count = λ t. clash r.large e t;
@@ -40,13 +40,13 @@ builds-large {r = r} e h = record {
 
 module _ {q : Question} (p : Proper q) (few : q.variables ≤ 32) where
   -- the codes are at most twice as many as the literals
-  pub many-codes : (n : ℕ) → n ≡ length (codes_of q.clauses) → 400 < n → 200 < length (kinds q)
-  many-codes n e h =
-      many-literals p few
-      (omega (arith, e, h, codes-length q.clauses, clauses-literals q.clauses (every_some p.clauses-below)))
+  pub many_codes : (n : ℕ) → n ≡ length (codes_of q.clauses) → 400 < n → 200 < length (kinds q)
+  many_codes n e h =
+      many_literals p few
+      (omega (arith, e, h, codes_length q.clauses, clauses-literals q.clauses (every_some p.clauses-below)))
 
-  pub many-words : {words : List ℕ} (n : ℕ) → n ≡ length words → Words words q.blocks → 200 < n → 200 < length (kinds q)
-  many-words n e w h = many-blocks p few (omega (arith, e, h, words-length w))
+  pub many_words : {words : List ℕ} (n : ℕ) → n ≡ length words → Words words q.blocks → 200 < n → 200 < length (kinds q)
+  many_words n e w h = many_blocks p few (omega (arith, e, h, words_length w))
 
 -- ---- the arrays of a text
 
@@ -58,19 +58,19 @@ pub stored-length : (vs l : List ℕ) {l' : List ℕ} (n : ℕ) → n ≡ length
 stored-length vs l n e h s = e ∙ sym (ap length (stored-take vs l n e h s))
 
 module _ {q : Question} (p : Proper q) (few : q.variables ≤ 32) {ts : List Token} (fields : ts ≡ page q) where
-  pub codes-here : codesFrom header ts ≡ codes_of q.clauses
-  codes-here = ap (codesFrom header) fields ∙ codes-page q p.clauses-below few
+  pub codes_here : codes_from header ts ≡ codes_of q.clauses
+  codes_here = ap (codes_from header) fields ∙ codes_page q p.clauses-below few
 
-  pub words-here : Words (wordsFrom header 0 ts) q.blocks
-  words-here = rw fields (words-page q p.blocks-below few)
+  pub words_here : Words (words_from header 0 ts) q.blocks
+  words_here = rw fields (words_page q p.blocks-below few)
 
-  pub arranged-here : (codes words : List ℕ) {codes' words' : List ℕ} (n m : ℕ)
-      → n ≡ length (codesFrom header ts) → n ≤ length codes → codes' ≡ sets codes 0 (codesFrom header ts)
-      → m ≡ length (wordsFrom header 0 ts) → m ≤ length words → words' ≡ sets words 0 (wordsFrom header 0 ts)
+  pub arranged_here : (codes words : List ℕ) {codes' words' : List ℕ} (n m : ℕ)
+      → n ≡ length (codes_from header ts) → n ≤ length codes → codes' ≡ sets codes 0 (codes_from header ts)
+      → m ≡ length (words_from header 0 ts) → m ≤ length words → words' ≡ sets words 0 (words_from header 0 ts)
       → Arranged q (take n codes') (take m words')
-  arranged-here codes words n m ne nl cs me ml ws = record {
-    codes-are = stored-take (codesFrom header ts) codes n ne nl cs ∙ codes-here;
-    words_are = rw (stored-take (wordsFrom header 0 ts) words m me ml ws) words-here;
+  arranged_here codes words n m ne nl cs me ml ws = record {
+    codes_are = stored-take (codes_from header ts) codes n ne nl cs ∙ codes_here;
+    words_are = rw (stored-take (words_from header 0 ts) words m me ml ws) words_here;
     proper = p;
     few = few;
   }
@@ -78,78 +78,78 @@ module _ {q : Question} (p : Proper q) (few : q.variables ≤ 32) {ts : List Tok
 -- ---- the frames of the arrays
 
 -- the buffer keeps its length
-pub first-length : (codes f : List ℕ) {f1 : List ℕ} → length f ≡ 800 → f1 ≡ sets f 0 (sheetBytes (matrixKinds (clausesOf codes))) → length f1 ≡ 800
-first-length codes f room h = ap length h ∙ length-sets f 0 (sheetBytes (matrixKinds (clausesOf codes))) ∙ room
+pub first-length : (codes f : List ℕ) {f1 : List ℕ} → length f ≡ 800 → f1 ≡ sets f 0 (sheet_bytes (matrix_kinds (clauses_of codes))) → length f1 ≡ 800
+first-length codes f room h = ap length h ∙ length-sets f 0 (sheet_bytes (matrix_kinds (clauses_of codes))) ∙ room
 
-pub both-length : (words : List ℕ) (n : ℕ) (f1 : List ℕ) {f2 : List ℕ} → length f1 ≡ 800 → f2 ≡ sets f1 (n * 4) (sheetBytes (wordKinds words n)) → length f2 ≡ 800
-both-length words n f1 room k = ap length k ∙ length-sets f1 (n * 4) (sheetBytes (wordKinds words n)) ∙ room
+pub both-length : (words : List ℕ) (n : ℕ) (f1 : List ℕ) {f2 : List ℕ} → length f1 ≡ 800 → f2 ≡ sets f1 (n * 4) (sheet_bytes (word_kinds words n)) → length f2 ≡ 800
+both-length words n f1 room k = ap length k ∙ length-sets f1 (n * 4) (sheet_bytes (word_kinds words n)) ∙ room
 
 module _ {q : Question} {codes words : List ℕ} (a : Arranged q codes words) where
-  pub clauses-are : clausesOf codes ≡ q.clauses
-  clauses-are = ap clausesOf a.codes-are ∙ clauses-codes q.clauses
+  pub clauses_are : clauses_of codes ≡ q.clauses
+  clauses_are = ap clauses_of a.codes_are ∙ clauses_codes q.clauses
 
-  pub codes-fit : Codes codes
-  codes-fit = rw a.codes-are (Encoded.codes-are q.clauses (clauses-below a.few a.proper.clauses-below))
+  pub codes_fit : Codes codes
+  codes_fit = rw a.codes_are (Encoded.codes_are q.clauses (clauses-below a.few a.proper.clauses-below))
 
-  pub some-frame : {n : ℕ} → n ≡ length (matrixKinds (clausesOf codes)) → 1 ≤ n
+  pub some-frame : {n : ℕ} → n ≡ length (matrix_kinds (clauses_of codes)) → 1 ≤ n
   some-frame e =
-      rw (e, clauses-are)
-      (matrix-stands q.clauses a.proper.some-clause (clauses-below a.few a.proper.clauses-below) (sheet-has (matrixKinds q.clauses))).least
+      rw (e, clauses_are)
+      (matrix-stands q.clauses a.proper.some-clause (clauses-below a.few a.proper.clauses-below) (sheet_has (matrix_kinds q.clauses))).least
 
-  module _ {n : ℕ} (e : n ≡ length (matrixKinds (clausesOf codes))) where
-    kinds-are : matrixKinds (clausesOf codes) ++ wordKinds words n ≡ kinds q
+  module _ {n : ℕ} (e : n ≡ length (matrix_kinds (clauses_of codes))) where
+    kinds_are : matrix_kinds (clauses_of codes) ++ word_kinds words n ≡ kinds q
     unfolding kinds
-    kinds-are = rw (e, clauses-are, words-kinds a.proper.alternating a.words_are (length (matrixKinds q.clauses)))
+    kinds_are = rw (e, clauses_are, words_kinds a.proper.alternating a.words_are (length (matrix_kinds q.clauses)))
 
-    pub count-is : {m : ℕ} → m ≡ n + length (wordKinds words n) → m ≡ length (kinds q)
-    count-is h = h ∙ omega (arith, e, length-append (matrixKinds (clausesOf codes)) (wordKinds words n)) ∙ ap length kinds-are
+    pub count-is : {m : ℕ} → m ≡ n + length (word_kinds words n) → m ≡ length (kinds q)
+    count-is h = h ∙ omega (arith, e, length-append (matrix_kinds (clauses_of codes)) (word_kinds words n)) ∙ ap length kinds_are
 
-    sheet-parts : sheetOf q ≡ sheetBytes (matrixKinds (clausesOf codes)) ++ sheetBytes (wordKinds words n)
-    unfolding sheetOf
-    sheet-parts = ap sheetBytes (sym kinds-are) ∙ sheet-append (matrixKinds (clausesOf codes)) (wordKinds words n)
+    sheet-parts : sheet_of q ≡ sheet_bytes (matrix_kinds (clauses_of codes)) ++ sheet_bytes (word_kinds words n)
+    unfolding sheet_of
+    sheet-parts = ap sheet_bytes (sym kinds_are) ∙ sheet_append (matrix_kinds (clauses_of codes)) (word_kinds words n)
 
-    sheet-size : length (sheetOf q) ≡ length (kinds q) * 4
-    unfolding sheetOf
+    sheet-size : length (sheet_of q) ≡ length (kinds q) * 4
+    unfolding sheet_of
     sheet-size = sheet-length (kinds q)
 
     -- two parts stored one after the other
-    both_stored : (f : List ℕ) {f1 f2 : List ℕ} → f1 ≡ sets f 0 (sheetBytes (matrixKinds (clausesOf codes))) → f2 ≡ sets f1 (n * 4) (sheetBytes (wordKinds words n))
-        → f2 ≡ sets f 0 (sheetOf q)
-    unfolding sheetOf
+    both_stored : (f : List ℕ) {f1 f2 : List ℕ} → f1 ≡ sets f 0 (sheet_bytes (matrix_kinds (clauses_of codes))) → f2 ≡ sets f1 (n * 4) (sheet_bytes (word_kinds words n))
+        → f2 ≡ sets f 0 (sheet_of q)
+    unfolding sheet_of
     both_stored f h k =
-        let ms = matrixKinds (clausesOf codes) in
+        let ms = matrix_kinds (clauses_of codes) in
         k ∙ rw (h, e)
-        (sym (store-append ms (wordKinds words (length ms)) f 0 ∙ rw zero-add)
-        ∙ ap (λ (ks : List Kind). sets f 0 (sheetBytes ks)) (rw (← e) kinds-are))
+        (sym (store_append ms (word_kinds words (length ms)) f 0 ∙ rw zero-add)
+        ∙ ap (λ (ks : List Kind). sets f 0 (sheet_bytes ks)) (rw (← e) kinds_are))
 
-    module _ (f : List ℕ) (room : length f ≡ 800) (few : length (kinds q) ≤ 200) {f1 f2 : List ℕ} (h : f1 ≡ sets f 0 (sheetBytes (matrixKinds (clausesOf codes))))
-        (k : f2 ≡ sets f1 (n * 4) (sheetBytes (wordKinds words n))) where
-      pub front-is : f2 ≡ sheetOf q ++ drop (length (sheetOf q)) f
-      front-is = both_stored f h k ∙ sets-start (sheetOf q) f (omega (arith, sheet-size))
+    module _ (f : List ℕ) (room : length f ≡ 800) (few : length (kinds q) ≤ 200) {f1 f2 : List ℕ} (h : f1 ≡ sets f 0 (sheet_bytes (matrix_kinds (clauses_of codes))))
+        (k : f2 ≡ sets f1 (n * 4) (sheet_bytes (word_kinds words n))) where
+      pub front-is : f2 ≡ sheet_of q ++ drop (length (sheet_of q)) f
+      front-is = both_stored f h k ∙ sets-start (sheet_of q) f (omega (arith, sheet-size))
 
-      matrix-front : take (n * 4) f2 ≡ sheetBytes (matrixKinds (clausesOf codes))
+      matrix-front : take (n * 4) f2 ≡ sheet_bytes (matrix_kinds (clauses_of codes))
       matrix-front =
-          let m = sheetBytes (matrixKinds (clausesOf codes)) in
-          let w = sheetBytes (wordKinds words n) in
-          let rest = drop (length (sheetOf q)) f in
+          let m = sheet_bytes (matrix_kinds (clauses_of codes)) in
+          let w = sheet_bytes (word_kinds words n) in
+          let rest = drop (length (sheet_of q)) f in
           ap (take (n * 4)) (front-is ∙ ap (λ (l : List ℕ). l ++ rest) sheet-parts ∙ append_assoc m w rest)
-          ∙ take_at m (w ++ rest) (n * 4) (sheet-length (matrixKinds (clausesOf codes)) ∙ omega (arith, e))
+          ∙ take_at m (w ++ rest) (n * 4) (sheet-length (matrix_kinds (clauses_of codes)) ∙ omega (arith, e))
 
       pub matrix-here : Matrix codes (take (n * 4) f2)
       matrix-here = record {
-        codes-are = codes-fit;
-        some-clause = rw clauses-are a.proper.some-clause;
-        below = rw clauses-are (clauses-below a.few a.proper.clauses-below);
-        frames-are = matrix-front;
-        few = omega (arith, ap length kinds-are, length-append (matrixKinds (clausesOf codes)) (wordKinds words n));
+        codes_are = codes_fit;
+        some-clause = rw clauses_are a.proper.some-clause;
+        below = rw clauses_are (clauses-below a.few a.proper.clauses-below);
+        frames_are = matrix-front;
+        few = omega (arith, ap length kinds_are, length-append (matrix_kinds (clauses_of codes)) (word_kinds words n));
       }
 
-      pub builds-small : {r : Built} → r.large ≡ false → r.frames ≡ length (kinds q) → Judged (clausesOf codes) r.contingent → Builds q f r f2
-      builds-small {r} t u j = record {
+      pub builds_small : {r : Built} → r.large ≡ false → r.frames ≡ length (kinds q) → Judged (clauses_of codes) r.contingent → Builds q f r f2
+      builds_small {r} t u j = record {
         large = λ l. clash r.large l t;
         small = λ l. few;
         count = λ l. u;
         bytes = λ l. front-is;
-        contingent = λ l c. subst Contingent clauses-are (j.is-contingent c);
-        settled = λ l c d. j.is-settled c (subst Contingent (sym clauses-are) d);
+        contingent = λ l c. subst Contingent clauses_are (j.is_contingent c);
+        settled = λ l c d. j.is-settled c (subst Contingent (sym clauses_are) d);
       }

@@ -4,11 +4,11 @@ use Rattle.std.proofs.Common.{arith, sym, ap, subst, ◌∙◌}
 use Rattle.words.specs.Logic.{clash}
 use Rattle.prenex.specs.Question.{Question, Literal, Clause, Proper, Every, every_one, SomeBelow}
 use Rattle.prenex.specs.Every.{every_first}
-use Rattle.dimacs.specs.Token.{behindComments, tokens}
+use Rattle.dimacs.specs.Token.{behind_comments, tokens}
 use Rattle.dimacs.specs.Page.{page, Written, WellFormed}
 use Rattle.dimacs.specs.Shape.{start, run, whole}
-use Rattle.dimacs.specs.ShapeLaws.{proper-shaped, page-whole, whole-page}
-use Rattle.dimacs.specs.Row.{header, properAtoms}
+use Rattle.dimacs.specs.ShapeLaws.{proper_shaped, page-whole, whole-page}
+use Rattle.dimacs.specs.Row.{header, proper_atoms}
 use Rattle.dimacs.specs.RowLaws.{atoms-proper, proper-atoms}
 use Rattle.qdimacs.specs.Reading.{Headed, ill, well}
 use Rattle.qdimacs.specs.declared.check.Header.{Header}
@@ -22,29 +22,29 @@ some-literal ((l ∷ c) ∷ cs) h (every_one s t) = omega (arith, every_first s.
 pub some-variable : {q : Question} → Proper q → 1 ≤ q.variables
 some-variable {q} p = some-literal q.clauses p.some-clause p.clauses-below
 
-module _ (text : List ℕ) (at : ℕ) (place : drop at text ≡ behindComments false text) where
+module _ (text : List ℕ) (at : ℕ) (place : drop at text ≡ behind_comments false text) where
   here : {q : Question} → Written q text → tokens (drop at text) ≡ page q
   here w = ap tokens place ∙ w.fields
 
-  shape-ill : whole (run start (tokens (drop at text))) ≡ false → WellFormed text → ⊥
-  shape-ill e w =
+  shape_ill : whole (run start (tokens (drop at text))) ≡ false → WellFormed text → ⊥
+  shape_ill e w =
       let q = w.question in
-      clash (whole (run start (page q))) (page-whole q (proper-shaped w.written.proper)).0 (rw (here w.written) at e)
+      clash (whole (run start (page q))) (page-whole q (proper_shaped w.written.proper)).0 (rw (here w.written) at e)
 
-  atoms-ill : properAtoms header (tokens (drop at text)) ≡ false → WellFormed text → ⊥
+  atoms-ill : proper_atoms header (tokens (drop at text)) ≡ false → WellFormed text → ⊥
   atoms-ill e w =
       let q = w.question in
-      clash (properAtoms header (page q)) (proper-atoms q w.written.proper.once w.written.proper.occurring) (rw (here w.written) at e)
+      clash (proper_atoms header (page q)) (proper-atoms q w.written.proper.once w.written.proper.occurring) (rw (here w.written) at e)
 
-  pub shape-broken : {r : Header} → whole (run start (tokens (drop at text))) ≡ false → r.variables ≡ 0 → Headed text r
-  shape-broken e z = ill z (shape-ill e)
+  pub shape_broken : {r : Header} → whole (run start (tokens (drop at text))) ≡ false → r.variables ≡ 0 → Headed text r
+  shape_broken e z = ill z (shape_ill e)
 
-  pub atoms-broken : {r : Header} → properAtoms header (tokens (drop at text)) ≡ false → r.variables ≡ 0 → Headed text r
+  pub atoms-broken : {r : Header} → proper_atoms header (tokens (drop at text)) ≡ false → r.variables ≡ 0 → Headed text r
   atoms-broken e z = ill z (atoms-ill e)
 
-  pub text-well : {r : Header} → r.at ≡ at → at ≤ length text → whole (run start (tokens (drop at text))) ≡ true
-      → properAtoms header (tokens (drop at text)) ≡ true → r.variables ≡ (run start (tokens (drop at text))).variables → Headed text r
-  text-well {r} a l e f v =
+  pub text_well : {r : Header} → r.at ≡ at → at ≤ length text → whole (run start (tokens (drop at text))) ≡ true
+      → proper_atoms header (tokens (drop at text)) ≡ true → r.variables ≡ (run start (tokens (drop at text))).variables → Headed text r
+  text_well {r} a l e f v =
       let found = whole-page (tokens (drop at text)) e in
       let q = found.0 in
       let s = found.1 in

@@ -1,7 +1,7 @@
 // The frames of a question that is well formed, and whether its matrix can be true and can be false.
 ghost use Rattle.std.specs.Prelude.{true, ◌≡◌, ◌≤◌, length, drop};
 ghost use Rattle.prenex.specs.Question.{Question, Proper};
-ghost use Rattle.prenex.specs.Code.{clausesOf};
+ghost use Rattle.prenex.specs.Code.{clauses_of};
 ghost use Rattle.dimacs.specs.Token.{tokens};
 ghost use Rattle.dimacs.specs.Page.{page};
 ghost use Rattle.qdimacs.specs.Reading.{Asked, Arranged, Arrays, Builds};
@@ -30,7 +30,7 @@ fn too_large() -> Built
 // Whether the matrix, in codes and in frames, is neither always true nor always false.
 fn contingent(codes: &[u8], frames: &[u8]) -> bool
     requires { Matrix codes.now frames.now }
-    ensures { Judged (clausesOf codes.now) result }
+    ensures { Judged (clauses_of codes.now) result }
 {
     if prenex::all_opposed(codes) {
         return false;

@@ -5,22 +5,22 @@ use Rattle.std.specs.Borrow.{Bor}
 use borrow.Author.Tests.{lt-ltb, le-ltb}
 use Rattle.words.specs.Logic.{by_bool, tests}
 use Rattle.words.specs.Mask.{agree}
-use Rattle.formula.specs.Least.{least, least-hit, least-miss, least-is, least-none}
-use Rattle.form.specs.Form.{room, recordStart}
+use Rattle.formula.specs.Least.{least, least-hit, least_miss, least-is, least-none}
+use Rattle.form.specs.Form.{room, record_start}
 use Rattle.form.specs.declared.Form.{Form}
 use Rattle.records.specs.declared.Hit.{Hit}
 use Rattle.records.specs.declared.Hit.TheVariants.{Under, Over, Neither}
-use Rattle.records.specs.Layout.{recordAt}
-use Rattle.records.specs.Table.{frame_at, maskAt, valuesAt}
+use Rattle.records.specs.Layout.{record_at}
+use Rattle.records.specs.Table.{frame_at, mask_at, values_at}
 use Rattle.records.specs.Search.{FirstBelow, NoneBelow}
 
 -- record j is one of that frame and agrees with the setting
-unfoldable pub agreesAt : Form → List ℕ → ℕ → ℕ → ℕ → Bool
-agreesAt F t frame setting j = eqb (frame_at F t j) frame && agree (maskAt F t j) (valuesAt F t j) setting
+unfoldable pub agrees_at : Form → List ℕ → ℕ → ℕ → ℕ → Bool
+agrees_at F t frame setting j = eqb (frame_at F t j) frame && agree (mask_at F t j) (values_at F t j) setting
 
 -- the first of the counted records that agrees, or the count
 abbrev pub first_at : Form → List ℕ → ℕ → ℕ → ℕ → ℕ
-first_at F t count frame setting = least (agreesAt F t frame setting) 0 count
+first_at F t count frame setting = least (agrees_at F t frame setting) 0 count
 
 -- u is the under table with m records, o the over table with n: u is searched first, and nothing is found if a count exceeds its table's room
 unfoldable pub hit : Form → List ℕ → ℕ → List ℕ → ℕ → ℕ → ℕ → Hit
@@ -31,18 +31,18 @@ hit F u m o n frame setting =
 
 -- the numbers of the part: a record's three or five, or none
 unfoldable pub part_of : Form → List ℕ → List ℕ → Hit → List ℕ
-part_of F u o (Under j) = recordAt F u j
-part_of F u o (Over j) = recordAt F o j
+part_of F u o (Under j) = record_at F u j
+part_of F u o (Over j) = record_at F o j
 part_of F u o Neither = []
 
 -- the place of record j, from its table's: a block of memory and an offset in it in bytes, of which a number takes 4, and so a record 12 or 20
-abbrev pub recordPlace : Form → ℕ × ℕ → ℕ → ℕ × ℕ
-recordPlace F t j = (t.0, t.1 + recordStart F j * 4)
+abbrev pub record_place : Form → ℕ × ℕ → ℕ → ℕ × ℕ
+record_place F t j = (t.0, t.1 + record_start F j * 4)
 
 -- the part's, from the places of the tables
 unfoldable pub place_of : Form → ℕ × ℕ → ℕ × ℕ → Hit → ℕ × ℕ
-place_of F u o (Under j) = recordPlace F u j
-place_of F u o (Over j) = recordPlace F o j
+place_of F u o (Under j) = record_place F u j
+place_of F u o (Over j) = record_place F o j
 place_of F u o Neither = u
 
 -- r is the part of the under table u or of the over table o that the hit h names
@@ -52,8 +52,8 @@ pub record Part (F : Form) (u o r : Bor (List ℕ)) (h : Hit) : Type 0 where
 
 -- r is the part of t that holds record j
 pub record Holding (F : Form) (t r : Bor (List ℕ)) (j : ℕ) : Type 0 where
-  pub numbers : r.now ≡ recordAt F t.now j
-  pub place : r.ref_ptr ≡ recordPlace F t.ref_ptr j
+  pub numbers : r.now ≡ record_at F t.now j
+  pub place : r.ref_ptr ≡ record_place F t.ref_ptr j
 
 -- r is the empty part at t's start
 pub record Empty (t r : Bor (List ℕ)) : Type 0 where
@@ -66,11 +66,11 @@ least_first : (p : ℕ → Bool) (count : ℕ) → least p 0 count < count → F
 least_first p count h = record {
   counted = h;
   hit = least-hit p 0 count (omega arith);
-  none_before = λ i l. least-miss p 0 count i (omega arith) l;
+  none_before = λ i l. least_miss p 0 count i (omega arith) l;
 }
 
-least-nowhere : (p : ℕ → Bool) (count : ℕ) → count ≤ least p 0 count → NoneBelow p count
-least-nowhere p count h i l = least-miss p 0 count i (omega arith) (omega arith)
+least_nowhere : (p : ℕ → Bool) (count : ℕ) → count ≤ least p 0 count → NoneBelow p count
+least_nowhere p count h i l = least_miss p 0 count i (omega arith) (omega arith)
 
 pub first-least : {p : ℕ → Bool} {count j : ℕ} → FirstBelow p count j → least p 0 count ≡ j
 first-least {p} {count} {j} f = least-is p 0 count j (omega arith) (omega (arith, f.counted)) f.hit (λ k l h. f.none_before k h)
@@ -81,69 +81,69 @@ none-least p count f = least-none p 0 count (λ k l h. f k (omega arith)) ∙ om
 -- ---- each case of the finder
 
 module _ (F : Form) (u : List ℕ) (m : ℕ) (o : List ℕ) (n frame setting : ℕ) where
-  pub hit-under-full : room F (length u) < m → hit F u m o n frame setting ≡ Neither
+  pub hit_under_full : room F (length u) < m → hit F u m o n frame setting ≡ Neither
   unfolding hit
-  hit-under-full h = rw (lt-ltb (room F (length u)) m h)
+  hit_under_full h = rw (lt-ltb (room F (length u)) m h)
 
   pub hit-over-full : room F (length o) < n → hit F u m o n frame setting ≡ Neither
   unfolding hit
   hit-over-full h = by_bool (ltb (room F (length u)) m) (λ e. rw e) (λ e. rw (e, lt-ltb (room F (length o)) n h))
 
   module _ (l : m ≤ room F (length u)) (k : n ≤ room F (length o)) where
-    pub hit-under : {j : ℕ} → first_at F u m frame setting ≡ j → j < m → hit F u m o n frame setting ≡ Under j
+    pub hit_under : {j : ℕ} → first_at F u m frame setting ≡ j → j < m → hit F u m o n frame setting ≡ Under j
     unfolding hit
-    hit-under {j} e h = rw (le-ltb (room F (length u)) m l, le-ltb (room F (length o)) n k, e, lt-ltb j m h)
+    hit_under {j} e h = rw (le-ltb (room F (length u)) m l, le-ltb (room F (length o)) n k, e, lt-ltb j m h)
 
     pub hit-over : {j : ℕ} → first_at F u m frame setting ≡ m → first_at F o n frame setting ≡ j → j < n → hit F u m o n frame setting ≡ Over j
     unfolding hit
     hit-over {j} e d h = rw (le-ltb (room F (length u)) m l, le-ltb (room F (length o)) n k, e, le-ltb m m (omega arith), d, lt-ltb j n h)
 
-    pub hit-neither : first_at F u m frame setting ≡ m → first_at F o n frame setting ≡ n → hit F u m o n frame setting ≡ Neither
+    pub hit_neither : first_at F u m frame setting ≡ m → first_at F o n frame setting ≡ n → hit F u m o n frame setting ≡ Neither
     unfolding hit
-    hit-neither e d = rw (le-ltb (room F (length u)) m l, le-ltb (room F (length o)) n k, e, le-ltb m m (omega arith), d, le-ltb n n (omega arith))
+    hit_neither e d = rw (le-ltb (room F (length u)) m l, le-ltb (room F (length o)) n k, e, le-ltb m m (omega arith), d, le-ltb n n (omega arith))
 
 -- ---- the finder in words: what each outcome says of the two tables
 
 abbrev pub Says : Form → List ℕ → ℕ → List ℕ → ℕ → ℕ → ℕ → Hit → Type 0
-Says F u m o n frame setting (Under j) = (m ≤ room F (length u)) × (n ≤ room F (length o)) × FirstBelow (agreesAt F u frame setting) m j
+Says F u m o n frame setting (Under j) = (m ≤ room F (length u)) × (n ≤ room F (length o)) × FirstBelow (agrees_at F u frame setting) m j
 Says F u m o n frame setting (Over j) =
-    (m ≤ room F (length u)) × (n ≤ room F (length o)) × NoneBelow (agreesAt F u frame setting) m × FirstBelow (agreesAt F o frame setting) n j
+    (m ≤ room F (length u)) × (n ≤ room F (length o)) × NoneBelow (agrees_at F u frame setting) m × FirstBelow (agrees_at F o frame setting) n j
 Says F u m o n frame setting Neither =
-    (room F (length u) < m) ⊎ ((room F (length o) < n) ⊎ (NoneBelow (agreesAt F u frame setting) m × NoneBelow (agreesAt F o frame setting) n))
+    (room F (length u) < m) ⊎ ((room F (length o) < n) ⊎ (NoneBelow (agrees_at F u frame setting) m × NoneBelow (agrees_at F o frame setting) n))
 
 module _ (F : Form) (u : List ℕ) (m : ℕ) (o : List ℕ) (n frame setting : ℕ) where
-  pub hit-says : Says F u m o n frame setting (hit F u m o n frame setting)
+  pub hit_says : Says F u m o n frame setting (hit F u m o n frame setting)
   unfolding hit
-  hit-says =
+  hit_says =
       by_bool (ltb (room F (length u)) m)
       (λ a. rw a (inl (omega tests)))
       (λ a. by_bool (ltb (room F (length o)) n)
       (λ b. rw (a, b) (inr (inl (omega tests))))
       (λ b. by_bool (ltb (first_at F u m frame setting) m)
-      (λ c. rw (a, b, c) (omega tests, omega tests, least_first (agreesAt F u frame setting) m (omega tests)))
-      (λ c. let none = least-nowhere (agreesAt F u frame setting) m (omega tests) in
+      (λ c. rw (a, b, c) (omega tests, omega tests, least_first (agrees_at F u frame setting) m (omega tests)))
+      (λ c. let none = least_nowhere (agrees_at F u frame setting) m (omega tests) in
       by_bool (ltb (first_at F o n frame setting) n)
-      (λ d. rw (a, b, c, d) (omega tests, omega tests, none, least_first (agreesAt F o frame setting) n (omega tests)))
-      (λ d. rw (a, b, c, d) (inr (inr (none, least-nowhere (agreesAt F o frame setting) n (omega tests))))))))
+      (λ d. rw (a, b, c, d) (omega tests, omega tests, none, least_first (agrees_at F o frame setting) n (omega tests)))
+      (λ d. rw (a, b, c, d) (inr (inr (none, least_nowhere (agrees_at F o frame setting) n (omega tests))))))))
 
   pub says_of : {r h : Hit} → r ≡ hit F u m o n frame setting → r ≡ h → Says F u m o n frame setting h
-  says_of d e = rw (← d, e) at hit-says
+  says_of d e = rw (← d, e) at hit_says
 
 -- ---- what is handed back, in words
 
 module _ (F : Form) (u : Bor (List ℕ)) (m : ℕ) (o : Bor (List ℕ)) (n frame setting : ℕ) (r : Bor (List ℕ))
     (part : Part F u o r (hit F u.now m o.now n frame setting)) where
-  pub finds-under : {j : ℕ} → m ≤ room F (length u.now) → n ≤ room F (length o.now) → FirstBelow (agreesAt F u.now frame setting) m j → Holding F u r j
+  pub finds_under : {j : ℕ} → m ≤ room F (length u.now) → n ≤ room F (length o.now) → FirstBelow (agrees_at F u.now frame setting) m j → Holding F u r j
   unfolding part_of place_of
-  finds-under {j} l k f =
-      let e = hit-under F u.now m o.now n frame setting l k (first-least f) f.counted in
+  finds_under {j} l k f =
+      let e = hit_under F u.now m o.now n frame setting l k (first-least f) f.counted in
       record { numbers = rw e at part.numbers; place = rw e at part.place }
 
-  pub finds-over : {j : ℕ} → m ≤ room F (length u.now) → n ≤ room F (length o.now) → NoneBelow (agreesAt F u.now frame setting) m
-      → FirstBelow (agreesAt F o.now frame setting) n j → Holding F o r j
+  pub finds_over : {j : ℕ} → m ≤ room F (length u.now) → n ≤ room F (length o.now) → NoneBelow (agrees_at F u.now frame setting) m
+      → FirstBelow (agrees_at F o.now frame setting) n j → Holding F o r j
   unfolding part_of place_of
-  finds-over {j} l k g f =
-      let e = hit-over F u.now m o.now n frame setting l k (none-least (agreesAt F u.now frame setting) m g) (first-least f) f.counted in
+  finds_over {j} l k g f =
+      let e = hit-over F u.now m o.now n frame setting l k (none-least (agrees_at F u.now frame setting) m g) (first-least f) f.counted in
       record { numbers = rw e at part.numbers; place = rw e at part.place }
 
   nothing : hit F u.now m o.now n frame setting ≡ Neither → Empty u r
@@ -151,17 +151,17 @@ module _ (F : Form) (u : Bor (List ℕ)) (m : ℕ) (o : Bor (List ℕ)) (n frame
   nothing e = record { numbers = rw e at part.numbers; place = rw e at part.place }
 
   -- a count over its table's room, whatever the other table holds
-  pub overfull-under : room F (length u.now) < m → Empty u r
-  overfull-under h = nothing (hit-under-full F u.now m o.now n frame setting h)
+  pub overfull_under : room F (length u.now) < m → Empty u r
+  overfull_under h = nothing (hit_under_full F u.now m o.now n frame setting h)
 
-  pub overfull-over : room F (length o.now) < n → Empty u r
-  overfull-over h = nothing (hit-over-full F u.now m o.now n frame setting h)
+  pub overfull_over : room F (length o.now) < n → Empty u r
+  overfull_over h = nothing (hit-over-full F u.now m o.now n frame setting h)
 
-  pub finds-nothing : NoneBelow (agreesAt F u.now frame setting) m → NoneBelow (agreesAt F o.now frame setting) n → Empty u r
-  finds-nothing g h =
+  pub finds_nothing : NoneBelow (agrees_at F u.now frame setting) m → NoneBelow (agrees_at F o.now frame setting) n → Empty u r
+  finds_nothing g h =
       by_bool (ltb (room F (length u.now)) m)
-      (λ a. overfull-under (omega tests))
+      (λ a. overfull_under (omega tests))
       (λ a. by_bool (ltb (room F (length o.now)) n)
-      (λ b. overfull-over (omega tests))
-      (λ b. nothing (hit-neither F u.now m o.now n frame setting (omega tests) (omega tests)
-      (none-least (agreesAt F u.now frame setting) m g) (none-least (agreesAt F o.now frame setting) n h))))
+      (λ b. overfull_over (omega tests))
+      (λ b. nothing (hit_neither F u.now m o.now n frame setting (omega tests) (omega tests)
+      (none-least (agrees_at F u.now frame setting) m g) (none-least (agrees_at F o.now frame setting) n h))))

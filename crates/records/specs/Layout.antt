@@ -2,7 +2,7 @@
 use Rattle.std.specs.Prelude.{ℕ, suc, ◌+◌, ◌*◌, ◌/◌, ◌%◌, ◌≤◌, ◌<◌, ◌≡◌, refl, List, [], ◌∷◌, length, get_or, take, drop}
 use Rattle.std.proofs.Common.{arith, ap₂, drop-cons}
 use Rattle.std.proofs.lemmas.List.Edits.{sets}
-use Rattle.form.specs.Form.{room, recordNumbers, recordStart, wordEnd}
+use Rattle.form.specs.Form.{room, record_numbers, record_start, word_end}
 use Rattle.form.specs.declared.Form.{Form}
 use Rattle.form.specs.declared.Form.TheVariants.{Narrow, Wide}
 
@@ -17,7 +17,7 @@ numbers Wide frame mask values = frame ∷ mask % half ∷ mask / half ∷ value
 
 -- a table with record j written
 abbrev pub stored : Form → List ℕ → ℕ → ℕ → ℕ → ℕ → List ℕ
-stored F t j frame mask values = sets t (recordStart F j) (numbers F frame mask values)
+stored F t j frame mask values = sets t (record_start F j) (numbers F frame mask values)
 
 -- mask and values of a record whose number i is g i
 abbrev pub mask_of : Form → (ℕ → ℕ) → ℕ
@@ -32,73 +32,73 @@ values_of Wide g = g 3 + g 4 * half
 
 -- its number i
 abbrev pub number_at : Form → List ℕ → ℕ → ℕ → ℕ
-number_at F t j i = get_or t (recordStart F j + i) 0
+number_at F t j i = get_or t (record_start F j + i) 0
 
 abbrev pub frame_at : Form → List ℕ → ℕ → ℕ
-frame_at F t j = get_or t (recordStart F j) 0
+frame_at F t j = get_or t (record_start F j) 0
 
-abbrev pub maskAt : Form → List ℕ → ℕ → ℕ
-maskAt F t j = mask_of F (number_at F t j)
+abbrev pub mask_at : Form → List ℕ → ℕ → ℕ
+mask_at F t j = mask_of F (number_at F t j)
 
-abbrev pub valuesAt : Form → List ℕ → ℕ → ℕ
-valuesAt F t j = values_of F (number_at F t j)
+abbrev pub values_at : Form → List ℕ → ℕ → ℕ
+values_at F t j = values_of F (number_at F t j)
 
 pub record Reads (F : Form) (t : List ℕ) (j frame mask values : ℕ) : Type 0 where
   pub frame_is : frame_at F t j ≡ frame
-  pub mask_is : maskAt F t j ≡ mask
-  pub values-are : valuesAt F t j ≡ values
+  pub mask_is : mask_at F t j ≡ mask
+  pub values_are : values_at F t j ≡ values
 
 -- all its numbers
-abbrev pub recordAt : Form → List ℕ → ℕ → List ℕ
-recordAt Narrow t j = frame_at Narrow t j ∷ maskAt Narrow t j ∷ valuesAt Narrow t j ∷ []
-recordAt Wide t j = frame_at Wide t j ∷ number_at Wide t j 1 ∷ number_at Wide t j 2 ∷ number_at Wide t j 3 ∷ number_at Wide t j 4 ∷ []
+abbrev pub record_at : Form → List ℕ → ℕ → List ℕ
+record_at Narrow t j = frame_at Narrow t j ∷ mask_at Narrow t j ∷ values_at Narrow t j ∷ []
+record_at Wide t j = frame_at Wide t j ∷ number_at Wide t j 1 ∷ number_at Wide t j 2 ∷ number_at Wide t j 3 ∷ number_at Wide t j 4 ∷ []
 
 -- ---- the case splits
 
-pub numbers-length : (F : Form) (f m v : ℕ) → length (numbers F f m v) ≡ recordNumbers F
+pub numbers-length : (F : Form) (f m v : ℕ) → length (numbers F f m v) ≡ record_numbers F
 numbers-length Narrow f m v = refl
 numbers-length Wide f m v = refl
 
-pub some-numbers : (F : Form) → 0 < recordNumbers F
+pub some-numbers : (F : Form) → 0 < record_numbers F
 some-numbers Narrow = omega arith
 some-numbers Wide = omega arith
 
-pub mask-same : (F : Form) (g h : ℕ → ℕ) → ((i : ℕ) → i < recordNumbers F → g i ≡ h i) → mask_of F g ≡ mask_of F h
+pub mask-same : (F : Form) (g h : ℕ → ℕ) → ((i : ℕ) → i < record_numbers F → g i ≡ h i) → mask_of F g ≡ mask_of F h
 mask-same Narrow g h e = e 1 (omega arith)
 mask-same Wide g h e = ap₂ (λ (x y : ℕ). x + y * half) (e 1 (omega arith)) (e 2 (omega arith))
 
-pub values_same : (F : Form) (g h : ℕ → ℕ) → ((i : ℕ) → i < recordNumbers F → g i ≡ h i) → values_of F g ≡ values_of F h
+pub values_same : (F : Form) (g h : ℕ → ℕ) → ((i : ℕ) → i < record_numbers F → g i ≡ h i) → values_of F g ≡ values_of F h
 values_same Narrow g h e = e 2 (omega arith)
 values_same Wide g h e = ap₂ (λ (x y : ℕ). x + y * half) (e 3 (omega arith)) (e 4 (omega arith))
 
-pub frame-read : (F : Form) (f m v : ℕ) → get_or (numbers F f m v) 0 0 ≡ f
-frame-read Narrow f m v = refl
-frame-read Wide f m v = refl
+pub frame_read : (F : Form) (f m v : ℕ) → get_or (numbers F f m v) 0 0 ≡ f
+frame_read Narrow f m v = refl
+frame_read Wide f m v = refl
 
-pub mask-read : (F : Form) (f m v : ℕ) → m < wordEnd F → mask_of F (λ i. get_or (numbers F f m v) i 0) ≡ m
-mask-read Narrow f m v h = omega arith
-mask-read Wide f m v h = omega arith
+pub mask_read : (F : Form) (f m v : ℕ) → m < word_end F → mask_of F (λ i. get_or (numbers F f m v) i 0) ≡ m
+mask_read Narrow f m v h = omega arith
+mask_read Wide f m v h = omega arith
 
-pub values-read : (F : Form) (f m v : ℕ) → v < wordEnd F → values_of F (λ i. get_or (numbers F f m v) i 0) ≡ v
-values-read Narrow f m v h = omega arith
-values-read Wide f m v h = omega arith
+pub values_read : (F : Form) (f m v : ℕ) → v < word_end F → values_of F (λ i. get_or (numbers F f m v) i 0) ≡ v
+values_read Narrow f m v h = omega arith
+values_read Wide f m v h = omega arith
 
 -- the mask of a record of numbers of 32 bits is a word of its form
-pub mask_word : (F : Form) (g : ℕ → ℕ) → ((i : ℕ) → g i < half) → mask_of F g < wordEnd F
+pub mask_word : (F : Form) (g : ℕ → ℕ) → ((i : ℕ) → g i < half) → mask_of F g < word_end F
 mask_word Narrow g h = h 1
 mask_word Wide g h = omega (arith, h 1, h 2)
 
 -- ---- the part of a table that holds record j, from number j * 3 to number j * 3 + 3, or by five
 
-pub part-record : (F : Form) (t : List ℕ) (j : ℕ) {n : ℕ} → j < room F (length t) → n ≡ recordNumbers F → take n (drop (recordStart F j) t) ≡ recordAt F t j
-part-record Narrow t j h e = ap₂ (λ (n : ℕ) (l : List ℕ). take n l) e whole
+pub part_record : (F : Form) (t : List ℕ) (j : ℕ) {n : ℕ} → j < room F (length t) → n ≡ record_numbers F → take n (drop (record_start F j) t) ≡ record_at F t j
+part_record Narrow t j h e = ap₂ (λ (n : ℕ) (l : List ℕ). take n l) e whole
   where
     whole : drop (j * 3) t ≡ get_or t (j * 3) 0 ∷ get_or t (j * 3 + 1) 0 ∷ get_or t (j * 3 + 2) 0 ∷ drop (suc (j * 3 + 2)) t
     whole =
         let a : suc (j * 3) ≡ j * 3 + 1 = omega arith in
         let b : suc (j * 3 + 1) ≡ j * 3 + 2 = omega arith in
         rw (drop-cons t (j * 3) 0 (omega arith), a, drop-cons t (j * 3 + 1) 0 (omega arith), b, drop-cons t (j * 3 + 2) 0 (omega arith))
-part-record Wide t j h e = ap₂ (λ (n : ℕ) (l : List ℕ). take n l) e whole
+part_record Wide t j h e = ap₂ (λ (n : ℕ) (l : List ℕ). take n l) e whole
   where
     whole : drop (j * 5) t ≡ get_or t (j * 5) 0 ∷ get_or t (j * 5 + 1) 0 ∷ get_or t (j * 5 + 2) 0 ∷ get_or t (j * 5 + 3) 0 ∷ get_or t (j * 5 + 4) 0 ∷ drop (suc (j * 5 + 4)) t
     whole =

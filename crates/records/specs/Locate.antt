@@ -4,13 +4,13 @@ use Rattle.std.proofs.Common.{◌∙◌, ap, mod-eq_of_lt, lt_of_lt_of_le, arith
 use Rattle.std.proofs.lemmas.Nat.{and_mask}
 use Rattle.std.specs.Borrow.{Bor}
 use Rattle.words.specs.Mask.{inside, sub-inside}
-use Rattle.form.specs.Form.{recordStart, end-most}
+use Rattle.form.specs.Form.{record_start, end-most}
 use Rattle.form.specs.declared.Form.{Form}
 use Rattle.records.specs.declared.Hit.TheVariants.{Under, Over}
 use Rattle.records.specs.Layout.{half, number_at, mask_word}
-use Rattle.records.specs.Table.{maskAt, matches}
+use Rattle.records.specs.Table.{mask_at, matches}
 use Rattle.records.specs.Search.{FirstBelow, NoneBelow, first-same, none-same}
-use Rattle.records.specs.Find.{agreesAt, first_at, first-least, none-least, part_of, place_of, Holding, Part}
+use Rattle.records.specs.Find.{agrees_at, first_at, first-least, none-least, part_of, place_of, Holding, Part}
 
 -- ---- a search with every variable assigned
 
@@ -20,20 +20,20 @@ inside-all n mask h = sub-inside (record { inside = and_mask mask n ∙ mod-eq_o
 
 -- in a table of numbers of 32 bits, in either form
 module _ (F : Form) (t : List ℕ) (count frame setting : ℕ) (small : (i : ℕ) → get_or t i 0 < half) where
-  mask-most : (j : ℕ) → maskAt F t j < 2 ^ 64
-  mask-most j = lt_of_lt_of_le (mask_word F (number_at F t j) (λ i. small (recordStart F j + i))) (end-most F)
+  mask-most : (j : ℕ) → mask_at F t j < 2 ^ 64
+  mask-most j = lt_of_lt_of_le (mask_word F (number_at F t j) (λ i. small (record_start F j + i))) (end-most F)
 
-  pub matches-agrees : (j : ℕ) → matches F t frame (2 ^ 64 - 1) setting j ≡ agreesAt F t frame setting j
-  unfolding matches agreesAt
-  matches-agrees j = rw (inside-all 64 (maskAt F t j) (mask-most j))
+  pub matches-agrees : (j : ℕ) → matches F t frame (2 ^ 64 - 1) setting j ≡ agrees_at F t frame setting j
+  unfolding matches agrees_at
+  matches-agrees j = rw (inside-all 64 (mask_at F t j) (mask-most j))
 
   pub first-is : {j : ℕ} → FirstBelow (matches F t frame (2 ^ 64 - 1) setting) count j → first_at F t count frame setting ≡ j
-  first-is f = first-least (first-same (agreesAt F t frame setting) matches-agrees f)
+  first-is f = first-least (first-same (agrees_at F t frame setting) matches-agrees f)
 
   pub first-none : NoneBelow (matches F t frame (2 ^ 64 - 1) setting) count → first_at F t count frame setting ≡ count
   first-none f =
-      none-least (agreesAt F t frame setting) count
-      (none-same (matches F t frame (2 ^ 64 - 1) setting) (agreesAt F t frame setting) count matches-agrees f)
+      none-least (agrees_at F t frame setting) count
+      (none-same (matches F t frame (2 ^ 64 - 1) setting) (agrees_at F t frame setting) count matches-agrees f)
 
 -- ---- the parts that the code hands back
 
@@ -46,9 +46,9 @@ start-place p = ap (λ (z : ℕ). (p.0, z)) (omega arith)
 
 -- a part that holds a record is the one that a hit of that record names
 module _ {F : Form} {u o r : Bor (List ℕ)} {j : ℕ} where
-  pub part-under : Holding F u r j → Part F u o r (Under j)
+  pub part_under : Holding F u r j → Part F u o r (Under j)
   unfolding part_of place_of
-  part-under h = record { numbers = h.numbers; place = h.place }
+  part_under h = record { numbers = h.numbers; place = h.place }
 
   pub part-over : Holding F o r j → Part F u o r (Over j)
   unfolding part_of place_of

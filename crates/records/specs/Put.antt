@@ -9,11 +9,11 @@ use Rattle.words.specs.Mask.{Sub, agree}
 use Rattle.formula.specs.Formula.{Formula}
 use Rattle.formula.specs.Reason.{Explains}
 use Rattle.form.specs.declared.Form.{Form}
-use Rattle.form.specs.Form.{room, recordNumbers, recordStart, wordEnd, start-next, room_fits}
+use Rattle.form.specs.Form.{room, record_numbers, record_start, word_end, start-next, room_fits}
 use Rattle.words.specs.Stores.{sets-before, sets_behind, sets-at}
 pub use Rattle.records.specs.Layout.{stored}
-use Rattle.records.specs.Layout.{numbers, number_at, Reads, numbers-length, some-numbers, mask-same, values_same, frame-read, mask-read, values-read}
-use Rattle.records.specs.Table.{Holds, Valid, Grown, Kept, all-matches, grown-refl, grown-holds}
+use Rattle.records.specs.Layout.{numbers, number_at, Reads, numbers-length, some-numbers, mask-same, values_same, frame_read, mask_read, values_read}
+use Rattle.records.specs.Table.{Holds, Valid, Grown, Kept, all-matches, grown_refl, grown_holds}
 
 -- the count is one more and the record stands there; a full table takes no more
 pub record Put (F : Form) (t : List ℕ) (count : ℕ) (t' : List ℕ) (count' frame mask values : ℕ) : Type 0 where
@@ -23,15 +23,15 @@ pub record Put (F : Form) (t : List ℕ) (count : ℕ) (t' : List ℕ) (count' f
   pub full : room F (length t) ≤ count → (count' ≡ count) × (t' ≡ t)
 
 -- the stores of a record's numbers
-pub put_next : (F : Form) (t : List ℕ) (count frame mask values : ℕ) → count < room F (length t) → mask < wordEnd F → values < wordEnd F
+pub put_next : (F : Form) (t : List ℕ) (count frame mask values : ℕ) → count < room F (length t) → mask < word_end F → values < word_end F
     → Put F t count (stored F t count frame mask values) (count + 1) frame mask values
 put_next F t count x y z h hm hv =
-    let i = recordStart F count in
+    let i = record_start F count in
     let ns = numbers F x y z in
-    let n : length ns ≡ recordNumbers F = numbers-length F x y z in
+    let n : length ns ≡ record_numbers F = numbers-length F x y z in
     let e = start-next F count in
     let fits : i + length ns ≤ length t = omega (arith, room_fits F {j = count + 1} {n = length t} (omega arith)) in
-    let at : (k : ℕ) → k < recordNumbers F → number_at F (sets t i ns) count k ≡ get_or ns k 0 = λ k b. sets-at ns t i k fits (omega arith) in
+    let at : (k : ℕ) → k < record_numbers F → number_at F (sets t i ns) count k ≡ get_or ns k 0 = λ k b. sets-at ns t i k fits (omega arith) in
     record {
       grown = record {
         same = length-sets t i ns;
@@ -41,16 +41,16 @@ put_next F t count x y z h hm hv =
       };
       next = λ l. refl;
       put = λ l. record {
-        frame_is = ap (λ (k : ℕ). get_or (sets t i ns) k 0) (let w : i ≡ i + 0 = omega arith in w) ∙ at 0 (some-numbers F) ∙ frame-read F x y z;
-        mask_is = mask-same F _ _ at ∙ mask-read F x y z hm;
-        values-are = values_same F _ _ at ∙ values-read F x y z hv;
+        frame_is = ap (λ (k : ℕ). get_or (sets t i ns) k 0) (let w : i ≡ i + 0 = omega arith in w) ∙ at 0 (some-numbers F) ∙ frame_read F x y z;
+        mask_is = mask-same F _ _ at ∙ mask_read F x y z hm;
+        values_are = values_same F _ _ at ∙ values_read F x y z hv;
       };
       full = λ l. absurd (omega arith);
     }
 
 pub put_full : (F : Form) (t : List ℕ) (count frame mask values : ℕ) → room F (length t) ≤ count → Put F t count t count frame mask values
 put_full F t count x y z h = record {
-  grown = grown-refl F t count;
+  grown = grown_refl F t count;
   next = λ l. absurd (omega arith);
   put = λ l. absurd (omega arith);
   full = λ l. (refl, refl);
@@ -60,14 +60,14 @@ put_full F t count x y z h = record {
 
 -- a true record of a frame keeps the table valid
 module _ {F : Form} {φ : ℕ → Formula} {n : ℕ} {v : Bool} {t t' : List ℕ} {count count' frame mask values : ℕ} where
-  pub valid-put : Valid F φ n v t count → Put F t count t' count' frame mask values
+  pub valid_put : Valid F φ n v t count → Put F t count t' count' frame mask values
       → frame < n → Sub values mask → Explains (φ frame) v (bit mask) (bit values) → Valid F φ n v t' count'
-  valid-put valid p below within explains = by_bool (ltb count (room F (length t)))
+  valid_put valid p below within explains = by_bool (ltb count (room F (length t)))
       (λ e. let h : count < room F (length t) = omega tests in
       record {
         fits = rw (p.grown.same, p.next h) (room_fits F (omega arith));
         each = λ j l. by_bool (ltb j count)
-            (λ d. grown-holds p.grown j (omega tests) φ n v (valid.each j (omega tests)))
+            (λ d. grown_holds p.grown j (omega tests) φ n v (valid.each j (omega tests)))
             (λ d. let s : j ≡ count = omega (tests, p.next h) in rw s (new h));
       })
       (λ e. let q = p.full (omega tests) in rw (q.0, q.1) valid)
@@ -77,8 +77,8 @@ module _ {F : Form} {φ : ℕ → Formula} {n : ℕ} {v : Bool} {t t' : List ℕ
           let r = p.put h in
           record {
             below = rw r.frame_is below;
-            within = rw (r.mask_is, r.values-are) within;
-            explains = rw (r.frame_is, r.mask_is, r.values-are) explains;
+            within = rw (r.mask_is, r.values_are) within;
+            explains = rw (r.frame_is, r.mask_is, r.values_are) explains;
           }
 
 -- what was put is kept: it matches each setting that it agrees with
@@ -92,6 +92,6 @@ module _ {F : Form} {t t' : List ℕ} {count count' frame mask values : ℕ} whe
         count,
         omega (arith, p.next h),
         all-matches F t' frame assigned setting count
-            (record { frame_is = r.frame_is; inside = rw r.mask_is s; agrees = rw (r.mask_is, r.values-are) a }),
+            (record { frame_is = r.frame_is; inside = rw r.mask_is s; agrees = rw (r.mask_is, r.values_are) a }),
       ))
       (λ e. inl (rw p.grown.same (omega (tests, (p.full (omega tests)).0))))

@@ -4,8 +4,8 @@ mod layout;
 ghost use Rattle.std.specs.Prelude.{◌≡◌, ◌<◌, ◌≤◌, length};
 ghost use Rattle.words.specs.Mask.{agree};
 ghost use Rattle.form.specs.Form as Sizes;
-ghost use Rattle.form.specs.Form.{recordStart, wordEnd};
-ghost use Rattle.records.specs.Table.{matches, maskAt};
+ghost use Rattle.form.specs.Form.{record_start, word_end};
+ghost use Rattle.records.specs.Table.{matches, mask_at};
 ghost use Rattle.records.specs.Put.{Put};
 ghost use Rattle.records.specs.Search.{Finds};
 ghost use Rattle.records.specs.Find.{hit, Part};
@@ -73,7 +73,7 @@ pub fn search(
     assigned: u64,
     setting: u64,
 ) -> Found
-    requires { recordStart form count ≤ length table.now }
+    requires { record_start form count ≤ length table.now }
     ensures { Finds form table.now count frame assigned setting result }
 {
     let mut j: usize = 0;
@@ -89,7 +89,7 @@ pub fn search(
 // The mask of a record (for the solver).
 pub fn mask_of(table: &[u32], form: Form, at: usize) -> u64
     requires { at < Sizes.room form (length table.now) }
-    ensures { result ≡ maskAt form table.now at }
+    ensures { result ≡ mask_at form table.now at }
 {
     let r = record_at(table, form, at);
     r.mask
@@ -97,7 +97,7 @@ pub fn mask_of(table: &[u32], form: Form, at: usize) -> u64
 
 // Puts a record behind the counted ones and tells how many there are then: a full table takes no more (for the solver).
 pub fn put(table: &mut [u32], form: Form, count: usize, frame: u32, mask: u64, values: u64) -> usize
-    requires { (recordStart form count ≤ length table.old) × (mask < wordEnd form) × (values < wordEnd form) }
+    requires { (record_start form count ≤ length table.old) × (mask < word_end form) × (values < word_end form) }
     ensures { Put form table.old count table.new result frame mask values }
 {
     if count < form::room(form, table.len()) {

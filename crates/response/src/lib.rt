@@ -1,7 +1,7 @@
 // What the program prints for a text of either form: the lines of the answers, or one line for a refusal.
 ghost use Rattle.form.specs.Form.{form_of};
-ghost use Rattle.sheet.specs.Fields.{sheetOf, narrow, wide};
-ghost use Rattle.response.specs.Printed.{allLines, refusalLine, printedRun, printed, Prints};
+ghost use Rattle.sheet.specs.Fields.{sheet_of, narrow, wide};
+ghost use Rattle.response.specs.Printed.{all_lines, refusal_line, printed_run, printed, Prints};
 
 use form::Form;
 
@@ -17,7 +17,7 @@ const WIDE_TABLE: usize = 2500;
 
 // Writes the lines of all answers, or nothing where they have no room.
 fn print_answers(answers: &[u8], out: &mut [u8]) -> usize
-    ensures { Prints (allLines Form.Narrow answers.now) out.old result out.new }
+    ensures { Prints (all_lines Form.Narrow answers.now) out.old result out.new }
 {
     if out.len() / text::LINE_BYTES < answers.len() / text::ANSWER_BYTES {
         return 0;
@@ -26,7 +26,7 @@ fn print_answers(answers: &[u8], out: &mut [u8]) -> usize
 }
 
 fn print_wide_answers(answers: &[u8], out: &mut [u8]) -> usize
-    ensures { Prints (allLines Form.Wide answers.now) out.old result out.new }
+    ensures { Prints (all_lines Form.Wide answers.now) out.old result out.new }
 {
     if out.len() / text::WIDE_LINE_BYTES < answers.len() / text::WIDE_ANSWER_BYTES {
         return 0;
@@ -36,14 +36,14 @@ fn print_wide_answers(answers: &[u8], out: &mut [u8]) -> usize
 
 // Writes the line of a refusal, which has as many bytes as an answer.
 fn print_refusal(number: u8, place: u8, out: &mut [u8]) -> usize
-    ensures { Prints (refusalLine Form.Narrow number place) out.old result out.new }
+    ensures { Prints (refusal_line Form.Narrow number place) out.old result out.new }
 {
     let answer = [number, place, 0, 0, 0, 0];
     print_answers(&answer, out)
 }
 
 fn print_wide_refusal(number: u8, place: u16, out: &mut [u8]) -> usize
-    ensures { Prints (refusalLine Form.Wide number place) out.old result out.new }
+    ensures { Prints (refusal_line Form.Wide number place) out.old result out.new }
 {
     let high = (place / 256) as u8;
     let low = (place % 256) as u8;
@@ -53,7 +53,7 @@ fn print_wide_refusal(number: u8, place: u16, out: &mut [u8]) -> usize
 
 // Writes the line of a text that is refused: its place is 0.
 fn print_unread(form: Form, number: u8, out: &mut [u8]) -> usize
-    ensures { Prints (refusalLine form number 0) out.old result out.new }
+    ensures { Prints (refusal_line form number 0) out.old result out.new }
 {
     match form {
         Form::Narrow => print_refusal(number, 0, out),
@@ -63,7 +63,7 @@ fn print_unread(form: Form, number: u8, out: &mut [u8]) -> usize
 
 // Runs a script over a narrow sheet and writes its answers, or its refusal.
 fn print_narrow(sheet: &[u8], script: &[u8], out: &mut [u8]) -> usize
-    ensures { Prints (printedRun (narrow sheet.now) script.now) out.old result out.new }
+    ensures { Prints (printed_run (narrow sheet.now) script.now) out.old result out.new }
 {
     let mut answers = [0u8; ANSWERS];
     let mut under = [0u32; TABLE];
@@ -79,7 +79,7 @@ fn print_narrow(sheet: &[u8], script: &[u8], out: &mut [u8]) -> usize
 
 // The same over a wide one.
 fn print_wide(sheet: &[u8], script: &[u8], out: &mut [u8]) -> usize
-    ensures { Prints (printedRun (wide sheet.now) script.now) out.old result out.new }
+    ensures { Prints (printed_run (wide sheet.now) script.now) out.old result out.new }
 {
     let mut answers = [0u8; WIDE_ANSWERS];
     let mut under = [0u32; WIDE_TABLE];
@@ -93,7 +93,7 @@ fn print_wide(sheet: &[u8], script: &[u8], out: &mut [u8]) -> usize
 }
 
 fn print_run(form: Form, sheet: &[u8], script: &[u8], out: &mut [u8]) -> usize
-    ensures { Prints (printedRun (sheetOf form sheet.now) script.now) out.old result out.new }
+    ensures { Prints (printed_run (sheet_of form sheet.now) script.now) out.old result out.new }
 {
     match form {
         Form::Narrow => print_narrow(sheet, script, out),

@@ -2,8 +2,8 @@
 ghost use Rattle.std.specs.Prelude.{◌≡◌, [], ◌∷◌, ◌+◌, ◌*◌, ◌/◌, ◌%◌, ◌^◌, ◌<◌, ◌≤◌, length};
 ghost use Rattle.std.proofs.lemmas.List.Edits.{sets};
 ghost use Rattle.words.specs.Bytes.{bytes_of};
-ghost use Rattle.form.specs.Form.{form_of, answersIn, answerStart};
-ghost use Rattle.model.specs.Model.{answerBytes};
+ghost use Rattle.form.specs.Form.{form_of, answers_in, answer_start};
+ghost use Rattle.model.specs.Model.{answer_bytes};
 ghost use Rattle.certificate.specs.Written.{written};
 
 use form::Form;
@@ -43,8 +43,8 @@ fn put4(answers: &mut [u8], at: usize, word: u64)
 
 // Writes the answer of line i at its place: six bytes.
 fn write_narrow(answers: &mut [u8], i: usize, answer: Answer)
-    requires { i < answersIn Form.Narrow (length answers.old) }
-    ensures { answers.new ≡ written answers.old (answerStart Form.Narrow i) (answerBytes Form.Narrow (record { number = answer.number; v = answer.v; word = answer.word })) }
+    requires { i < answers_in Form.Narrow (length answers.old) }
+    ensures { answers.new ≡ written answers.old (answer_start Form.Narrow i) (answer_bytes Form.Narrow (record { number = answer.number; v = answer.v; word = answer.word })) }
 {
     let at = i * 6;
     put2(answers, at, answer.number, answer.v);
@@ -53,8 +53,8 @@ fn write_narrow(answers: &mut [u8], i: usize, answer: Answer)
 
 // Writes the answer of line i at its place: ten bytes.
 fn write_wide(answers: &mut [u8], i: usize, answer: Answer)
-    requires { i < answersIn Form.Wide (length answers.old) }
-    ensures { answers.new ≡ written answers.old (answerStart Form.Wide i) (answerBytes Form.Wide (record { number = answer.number; v = answer.v; word = answer.word })) }
+    requires { i < answers_in Form.Wide (length answers.old) }
+    ensures { answers.new ≡ written answers.old (answer_start Form.Wide i) (answer_bytes Form.Wide (record { number = answer.number; v = answer.v; word = answer.word })) }
 {
     let at = i * 10;
     let high = answer.word >> 32;
@@ -65,8 +65,8 @@ fn write_wide(answers: &mut [u8], i: usize, answer: Answer)
 
 // Writes the answer of line i at its place.
 pub fn write_at(answers: &mut [u8], wide: bool, i: usize, answer: Answer)
-    requires { i < answersIn (form_of wide) (length answers.old) }
-    ensures { answers.new ≡ written answers.old (answerStart (form_of wide) i) (answerBytes (form_of wide) (record { number = answer.number; v = answer.v; word = answer.word })) }
+    requires { i < answers_in (form_of wide) (length answers.old) }
+    ensures { answers.new ≡ written answers.old (answer_start (form_of wide) i) (answer_bytes (form_of wide) (record { number = answer.number; v = answer.v; word = answer.word })) }
 {
     if wide {
         write_wide(answers, i, answer);

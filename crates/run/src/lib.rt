@@ -2,16 +2,16 @@
 mod answer;
 
 ghost use Rattle.std.specs.Prelude.{◌≡◌, List, ◌++◌, ℕ, ◌+◌, ◌<◌, ◌≤◌, length, ltb};
-ghost use Rattle.form.specs.Form.{form_of, answersIn};
+ghost use Rattle.form.specs.Form.{form_of, answers_in};
 ghost use Rattle.sheet.specs.Cause.{first};
 ghost use Rattle.sheet.specs.Check.{Checks};
-ghost use Rattle.sheet.specs.Fields.{sheetOf, narrow, wide};
+ghost use Rattle.sheet.specs.Fields.{sheet_of, narrow, wide};
 ghost use Rattle.model.specs.Model.{lines};
-ghost use Rattle.net.specs.Layout.{freeOf};
+ghost use Rattle.net.specs.Layout.{free_of};
 ghost use Rattle.net.specs.Load.{Empty};
 ghost use Rattle.net.specs.Sheet.{Checked, NetOf};
 ghost use Rattle.session.specs.Sound.{OnNet};
-ghost use Rattle.certificate.specs.Run.{scriptCauses, roomCauses, causes, Run};
+ghost use Rattle.certificate.specs.Run.{script_causes, room_causes, causes, Run};
 ghost use Rattle.certificate.specs.Progress.{LineIs, LineRun, Progress};
 
 use form::Form;
@@ -29,7 +29,7 @@ pub struct Ran {
 
 // The first of the causes that a script and an answer buffer of that many bytes give, or 0.
 fn script_fault(form: Form, script: &[u8], room: usize) -> u8
-    ensures { result ≡ (first (scriptCauses script.now ++ roomCauses form script.now room)).number }
+    ensures { result ≡ (first (script_causes script.now ++ room_causes form script.now room)).number }
 {
     let n = script.len() / 4;
     if script.len() % 4 != 0 {
@@ -46,7 +46,7 @@ fn script_fault(form: Form, script: &[u8], room: usize) -> u8
 
 // The run's refusal, in document 01's order, or none, with the free variables of the sheet's last frame and the sheet's gauges.
 fn check(sheet: &[u8], form: Form, script: &[u8], room: usize) -> sheet::Checked
-    ensures { Checks (causes (sheetOf form sheet.now) script.now room) (sheetOf form sheet.now) result.number result.place result.free result.gauges }
+    ensures { Checks (causes (sheet_of form sheet.now) script.now room) (sheet_of form sheet.now) result.number result.place result.free result.gauges }
 {
     let size = sheet::size_fault(form, sheet.len());
     if size != 0 {
@@ -123,8 +123,8 @@ fn run_line(
     under: &mut [u32],
     over: &mut [u32],
 )
-    requires { ((b : List ℕ) × OnNet (sheetOf (form_of wide) b) net.old session.old under.old over.old) × ((i < lines script.now) × (i < answersIn (form_of wide) (length answers.old))) }
-    ensures { (net.new ≡ net.old) × ((b : List ℕ) → OnNet (sheetOf (form_of wide) b) net.old session.old under.old over.old → LineRun (sheetOf (form_of wide) b) script.now (freeOf net.old) i session.old answers.old under.old over.old session.new answers.new under.new over.new) }
+    requires { ((b : List ℕ) × OnNet (sheet_of (form_of wide) b) net.old session.old under.old over.old) × ((i < lines script.now) × (i < answers_in (form_of wide) (length answers.old))) }
+    ensures { (net.new ≡ net.old) × ((b : List ℕ) → OnNet (sheet_of (form_of wide) b) net.old session.old under.old over.old → LineRun (sheet_of (form_of wide) b) script.now (free_of net.old) i session.old answers.old under.old over.old session.new answers.new under.new over.new) }
 {
     let line = line_at(script, i);
     let told = session::inplace::step(session, line.k, line.a, line.b, line.c, net, under, over);
@@ -140,8 +140,8 @@ fn run_lines(
     under: &mut [u32],
     over: &mut [u32],
 ) -> Session
-    requires { ((b : List ℕ) × Checked (sheetOf (form_of wide) b) (freeOf net.old) × NetOf (sheetOf (form_of wide) b) net.old) × (lines script.now ≤ answersIn (form_of wide) (length answers.old)) }
-    ensures { (b : List ℕ) → Checked (sheetOf (form_of wide) b) (freeOf net.old) → NetOf (sheetOf (form_of wide) b) net.old → Progress (sheetOf (form_of wide) b) script.now (freeOf net.old) answers.old under.old over.old (lines script.now) result answers.new under.new over.new }
+    requires { ((b : List ℕ) × Checked (sheet_of (form_of wide) b) (free_of net.old) × NetOf (sheet_of (form_of wide) b) net.old) × (lines script.now ≤ answers_in (form_of wide) (length answers.old)) }
+    ensures { (b : List ℕ) → Checked (sheet_of (form_of wide) b) (free_of net.old) → NetOf (sheet_of (form_of wide) b) net.old → Progress (sheet_of (form_of wide) b) script.now (free_of net.old) answers.old under.old over.old (lines script.now) result answers.new under.new over.new }
 {
     let mut session = session::entries::empty();
     let mut turn = turn_at(script, 0);
@@ -172,7 +172,7 @@ fn run_form(
     net: &mut [u64],
 ) -> Ran
     requires { Empty (form_of wide) net.old }
-    ensures { Run (sheetOf (form_of wide) sheet.now) script.now answers.old under.old over.old answers.new under.new over.new result.number result.place result.under result.over }
+    ensures { Run (sheet_of (form_of wide) sheet.now) script.now answers.old under.old over.old answers.new under.new over.new result.number result.place result.under result.over }
 {
     let form = form::of(wide);
     let checked = check(sheet, form, script, answers.len());

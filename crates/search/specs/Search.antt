@@ -4,7 +4,7 @@ use Rattle.words.specs.Word.{bit}
 use Rattle.formula.specs.Formula.{Formula}
 use Rattle.records.specs.Both.{Tables}
 use Rattle.net.specs.Net.{Clear}
-use Rattle.net.specs.Layout.{netForm, framesOf, packed, formulaAt, val, Ground}
+use Rattle.net.specs.Layout.{net_form, frames_of, packed, formula_at, val, Ground}
 use Rattle.net.specs.Sheet.{Faithful}
 use Rattle.judge.specs.Judge.{Judged}
 pub use Rattle.imply.specs.Posed.{Found, Met, Lost, Solved, Free, Covers, Posed}
@@ -20,12 +20,12 @@ pub record Lent (net wants u : List ℕ) (cu : ℕ) (o : List ℕ) (co : ℕ) : 
   pub long : 3 * length net ≤ 201 + 2 * length wants
   pub φ : ℕ → Formula
   pub faithful : Faithful φ net
-  pub tables : Tables (netForm net) φ (framesOf net) u cu o co
+  pub tables : Tables (net_form net) φ (frames_of net) u cu o co
 
 -- node i under a full candidate, or a quantifier of a question behind the frames
 pub record Checked (net : List ℕ) (i m w : ℕ) (cells : List ℕ) : Type 0 where
   pub ground : Ground net
-  pub here : i ≤ framesOf net + 2
+  pub here : i ≤ frames_of net + 2
   pub covers : Covers net i m
   pub clear : Clear (packed net) i m
   pub judged : Judged net m w cells

@@ -2,7 +2,7 @@
 // `candidate`; its solutionForallChildren is `check` with `evaluate`, `gate` and `quantified`.
 ghost use Rattle.std.specs.Prelude.{◌≡◌, false, ◌+◌, ◌<◌, ◌≤◌};
 ghost use Rattle.words.specs.Mask as Mask;
-ghost use Rattle.net.specs.Layout.{netForm, framesOf, changed, Is, decides};
+ghost use Rattle.net.specs.Layout.{net_form, frames_of, changed, Is, decides};
 ghost use Rattle.judge.specs.Judge.{Judging};
 ghost use Rattle.proxies.specs.Growing.{Growing};
 ghost use Rattle.proxies.specs.Kept.{Noted};
@@ -328,7 +328,7 @@ fn check(
     over: &mut [u32],
     kept: Counts,
 ) -> Valued
-    requires i_bound { (i < framesOf net.now + 2) × Checked net.now i cube.mask cube.values cells.old }
+    requires i_bound { (i < frames_of net.now + 2) × Checked net.now i cube.mask cube.values cells.old }
     requires lent { Lent net.now wants.old under.old kept.under over.old kept.over }
     ensures told { Told net.now cube.mask cube.values i result.value result.reason × Judging net.now cube.mask cube.values cells.old head cells.new result.head }
     ensures growing { Growing net.now under.old kept.under over.old kept.over under.new result.kept.under over.new result.kept.over }
@@ -399,7 +399,7 @@ fn evaluate(
     over: &mut [u32],
     kept: Counts,
 ) -> Valued
-    requires i_bound { (i < framesOf net.now + 2) × Checked net.now i cube.mask cube.values cells.old }
+    requires i_bound { (i < frames_of net.now + 2) × Checked net.now i cube.mask cube.values cells.old }
     requires lent { Lent net.now wants.old under.old kept.under over.old kept.over }
     ensures told { Told net.now cube.mask cube.values i result.value result.reason × Judging net.now cube.mask cube.values cells.old head cells.new result.head }
     ensures growing { Growing net.now under.old kept.under over.old kept.over under.new result.kept.under over.new result.kept.over }
@@ -446,7 +446,7 @@ fn gate(
     kept: Counts,
 ) -> Valued
     requires is { Is net.now i node.op node.left node.right node.mask × (4 ≤ node.op) × (node.op < 6) }
-    requires i_bound { (i < framesOf net.now + 2) × Checked net.now i cube.mask cube.values cells.old }
+    requires i_bound { (i < frames_of net.now + 2) × Checked net.now i cube.mask cube.values cells.old }
     requires lent { Lent net.now wants.old under.old kept.under over.old kept.over }
     ensures told { Told net.now cube.mask cube.values i result.value result.reason × Judging net.now cube.mask cube.values cells.old head cells.new result.head }
     ensures growing { Growing net.now under.old kept.under over.old kept.over under.new result.kept.under over.new result.kept.over }
@@ -488,11 +488,11 @@ fn quantified(
     kept: Counts,
 ) -> Valued
     requires is { Is net.now i node.op node.left node.right node.mask × (6 ≤ node.op) }
-    requires i_bound { (i < framesOf net.now + 2) × Checked net.now i cube.mask cube.values cells.old }
+    requires i_bound { (i < frames_of net.now + 2) × Checked net.now i cube.mask cube.values cells.old }
     requires lent { Lent net.now wants.old under.old kept.under over.old kept.over }
     ensures told { Told net.now cube.mask cube.values i result.value result.reason × Judging net.now cube.mask cube.values cells.old head cells.new result.head }
     ensures growing { Growing net.now under.old kept.under over.old kept.over under.new result.kept.under over.new result.kept.over }
-    ensures noted { i < framesOf net.now → changed net.now i ≡ false → Noted (netForm net.now) i result.value cube.values under.new result.kept.under over.new result.kept.over }
+    ensures noted { i < frames_of net.now → changed net.now i ≡ false → Noted (net_form net.now) i result.value cube.values under.new result.kept.under over.new result.kept.over }
 {
     let known = recorded(net, i, cube.values, &under[..], &over[..], kept);
     if known.value != 0 {

@@ -11,7 +11,7 @@ use mir.Val.{Val, vint}
 use denote.Ref.{Bor}
 use denote.Slice.{slice_val}
 use Rattle.sheet.specs.Fields.{Sheet}
-use Rattle.net.specs.Layout.{freeOf}
+use Rattle.net.specs.Layout.{free_of}
 use Rattle.session.specs.Sound.{OnNet}
 use Rattle.session.specs.Step.{Step}
 use Rattle.session.specs.declared.Session.{Session}
@@ -50,4 +50,4 @@ Some h n t z = (s : Sheet) × OnNet s n.now h t.now z.now
 -- the net is as before, and of every sheet whose net it is the line was answered
 abbrev pub Every : Session → Beside → Session → Answer → Ends → Type 0
 Every h (k, (a, (b, (c, (n, (t, (z, e))))))) r w ws =
-    (net-end ws ≡ n.now) × ((s : Sheet) → OnNet s n.now h t.now z.now → Step s (freeOf n.now) h t.now z.now k a b c r (under-end ws) (over-end ws) w.number w.v w.word)
+    (net-end ws ≡ n.now) × ((s : Sheet) → OnNet s n.now h t.now z.now → Step s (free_of n.now) h t.now z.now k a b c r (under-end ws) (over-end ws) w.number w.v w.word)

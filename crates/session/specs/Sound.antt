@@ -5,27 +5,27 @@ use Rattle.words.specs.Word.{bit}
 use Rattle.form.specs.Form.{few-variables}
 use Rattle.sheet.specs.Fields.{Sheet, variables}
 use Rattle.sheet.specs.Rules.{gauges}
-use Rattle.records.specs.Both.{tables-none}
-use Rattle.net.specs.Layout.{freeOf}
+use Rattle.records.specs.Both.{tables_none}
+use Rattle.net.specs.Layout.{free_of}
 use Rattle.net.specs.Sheet.{NetOf}
 pub use Rattle.net.specs.Sheet.{Checked}
 use Rattle.solver.specs.Contract.{root, Tables, Ready}
 use Rattle.model.specs.declared.Entry.{Entry}
 use Rattle.session.specs.declared.Session.{Session}
-use Rattle.model.specs.Model.{Meaning, meaning, noEntry, enteredMask, enteredValues, entered}
-use Rattle.model.specs.Entries.{Entered, Words, words-valued, words_opened, entry_at, none-entered, not_earlier, opens-below, bit-opens}
+use Rattle.model.specs.Model.{Meaning, meaning, no_entry, entered_mask, entered_values, entered}
+use Rattle.model.specs.Entries.{Entered, Words, words_valued, words_opened, entry_at, none-entered, not_earlier_lem, opens_below, bit_opens}
 
 -- the entries that stand, oldest first
-abbrev pub standingOf : Session → List Entry
-standingOf x = take x.len x.entries
+abbrev pub standing_of : Session → List Entry
+standing_of x = take x.len x.entries
 
 -- the cube that the session keeps is that of the entries that stand
 abbrev pub WordsKept : Session → Type 0
-WordsKept x = Words (standingOf x) x.entered.mask x.entered.values
+WordsKept x = Words (standing_of x) x.entered.mask x.entered.values
 
 -- what the reference model takes from a sheet: the meaning of its last frame, with the sheet's gauges
-abbrev pub sheetMeaning : Sheet → Meaning
-sheetMeaning s = meaning (variables s) (root s) (gauges s)
+abbrev pub sheet_meaning : Sheet → Meaning
+sheet_meaning s = meaning (variables s) (root s) (gauges s)
 
 -- the array has its length, and as many entries stand as there are variables at most, each of one that no earlier entry has; their words are kept
 pub record Shaped (x : Session) : Type 0 where
@@ -38,7 +38,7 @@ pub record Shaped (x : Session) : Type 0 where
 -- v is a variable, and no entry of it stands
 pub record Fresh (x : Session) (v : ℕ) : Type 0 where
   pub low : v < 64
-  pub absent : entered (standingOf x) v ≡ false
+  pub absent : entered (standing_of x) v ≡ false
 
 -- s with free is checked; entries are of open variables, distinct, and valued 0 or 1, and their words are kept; the counted records are within the
 -- tables u and o, and true
@@ -46,46 +46,46 @@ pub record Sound (s : Sheet) (free : ℕ) (x : Session) (u o : List ℕ) : Type 
   pub sheet : Checked s free
   pub cells : length x.entries ≡ 64
   pub within : x.len ≤ 64
-  pub entered : Entered (sheetMeaning s) (standingOf x)
+  pub entered : Entered (sheet_meaning s) (standing_of x)
   pub words : WordsKept x
   pub tables : Tables s u x.under o x.over
 
 -- ---- the entries
 
-pub length-standing : (x : Session) → length x.entries ≡ 64 → x.len ≤ 64 → length (standingOf x) ≡ x.len
+pub length-standing : (x : Session) → length x.entries ≡ 64 → x.len ≤ 64 → length (standing_of x) ≡ x.len
 length-standing x e h = length-take-le x.len x.entries (omega arith)
 
 module _ {s : Sheet} {free : ℕ} {x : Session} {u o : List ℕ} (d : Sound s free x u o) where
-  pub sound-length : length (standingOf x) ≡ x.len
-  sound-length = length-standing x d.cells d.within
+  pub sound_length : length (standing_of x) ≡ x.len
+  sound_length = length-standing x d.cells d.within
 
-  pub sound-shaped : Shaped x
-  sound-shaped = record {
+  pub sound_shaped : Shaped x
+  sound_shaped = record {
     cells = d.cells;
     within = d.within;
-    low = λ i h. omega (arith, few-variables s.form, opens-below (variables s) (root s) (gauges s) _ (rw (get_or-take x.len x.entries i noEntry h) at (d.entered.opened i (rw sound-length h))));
-    fresh = λ i h. rw (take-take i x.len x.entries (omega arith), get_or-take x.len x.entries i noEntry h) at (not_earlier i d.entered (rw sound-length h));
+    low = λ i h. omega (arith, few-variables s.form, opens_below (variables s) (root s) (gauges s) _ (rw (get_or-take x.len x.entries i no_entry h) at (d.entered.opened i (rw sound_length h))));
+    fresh = λ i h. rw (take-take i x.len x.entries (omega arith), get_or-take x.len x.entries i no_entry h) at (not_earlier_lem i d.entered (rw sound_length h));
     words = d.words;
   }
 
   -- what the model calls open is what the word of the free variables has
-  pub sound-opens : {f : ℕ} → f ≡ free → (v : ℕ) → (sheetMeaning s).opens v ≡ bit f v
-  sound-opens e v = sym (rw (e, d.sheet.opens) (bit-opens (variables s) (root s) (gauges s) v))
+  pub sound_opens : {f : ℕ} → f ≡ free → (v : ℕ) → (sheet_meaning s).opens v ≡ bit f v
+  sound_opens e v = sym (rw (e, d.sheet.opens) (bit_opens (variables s) (root s) (gauges s) v))
 
 -- ---- on the sheet's net
 
 -- a line is lent the net of the sheet, and the sheet's free variables stand in it
 pub record OnNet (s : Sheet) (net : List ℕ) (x : Session) (u o : List ℕ) : Type 0 where
-  pub net-of : NetOf s net
-  pub sound : Sound s (freeOf net) x u o
+  pub net_of : NetOf s net
+  pub sound : Sound s (free_of net) x u o
 
 -- as the solver wants its entries
-pub net-ready : {s : Sheet} {net : List ℕ} {x : Session} {u o : List ℕ} → OnNet s net x u o → Ready s net x.entered.mask x.entered.values u x.under o x.over
-net-ready {s} d = record {
+pub net_ready : {s : Sheet} {net : List ℕ} {x : Session} {u o : List ℕ} → OnNet s net x u o → Ready s net x.entered.mask x.entered.values u x.under o x.over
+net_ready {s} d = record {
   checked = d.sound.sheet;
-  net-of = d.net-of;
+  net_of = d.net_of;
   entered = rw d.sound.sheet.opens (words_opened (variables s) (root s) (gauges s) d.sound.entered d.sound.words);
-  valued = words-valued d.sound.words;
+  valued = words_valued d.sound.words;
   tables = d.sound.tables;
 }
 
@@ -99,20 +99,20 @@ pub record Empty (x : Session) : Type 0 where
   pub under : x.under ≡ 0
   pub over : x.over ≡ 0
 
-pub empty-standing : {x : Session} → Empty x → standingOf x ≡ []
-empty-standing e = rw e.none
+pub empty_standing : {x : Session} → Empty x → standing_of x ≡ []
+empty_standing e = rw e.none
 
-pub empty-words : {x : Session} → Empty x → WordsKept x
-unfolding enteredMask enteredValues
-empty-words e = rw e.none (record { mask_is = e.mask; values-are = e.values })
+pub empty_words : {x : Session} → Empty x → WordsKept x
+unfolding entered_mask entered_values
+empty_words e = rw e.none (record { mask_is = e.mask; values_are = e.values })
 
 -- the empty session is sound, with any tables
-pub empty-sound : {s : Sheet} {free : ℕ} {x : Session} (u o : List ℕ) → Checked s free → Empty x → Sound s free x u o
-empty-sound {s} {x = x} u o k e = record {
+pub empty_sound : {s : Sheet} {free : ℕ} {x : Session} (u o : List ℕ) → Checked s free → Empty x → Sound s free x u o
+empty_sound {s} {x = x} u o k e = record {
   sheet = k;
   cells = e.cells;
   within = omega (arith, e.none);
-  entered = rw (empty-standing e) (none-entered (sheetMeaning s));
-  words = empty-words e;
-  tables = rw (e.under, e.over) (tables-none u o);
+  entered = rw (empty_standing e) (none-entered (sheet_meaning s));
+  words = empty_words e;
+  tables = rw (e.under, e.over) (tables_none u o);
 }

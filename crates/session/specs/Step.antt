@@ -2,22 +2,22 @@
 use Rattle.std.specs.Prelude.{ℕ, ◌≤◌, ◌<◌, ◌≡◌, Bool, false, ◌||◌, List, length, eqb}
 use Rattle.formula.specs.Ask.{Verdict}
 use Rattle.sheet.specs.Fields.{Sheet}
-use Rattle.solver.specs.Contract.{verdictOf, reasonOf, TablesGrown, Promised}
+use Rattle.solver.specs.Contract.{verdict_of, reason_of, TablesGrown, Promised}
 use Rattle.model.specs.declared.Entry.{Entry}
 use Rattle.session.specs.declared.Session.{Session}
-use Rattle.model.specs.Model.{Answer, Reply, judged, enteredMask, enteredValues, ASK, WHY, line}
-use Rattle.session.specs.Sound.{standingOf, WordsKept, sheetMeaning, Sound}
+use Rattle.model.specs.Model.{Answer, Reply, judged, entered_mask, entered_values, ASK, WHY, line}
+use Rattle.session.specs.Sound.{standing_of, WordsKept, sheet_meaning, Sound}
 
 -- what ASK and WHY say of a sheet where the entries es stand
-abbrev pub askOf : Sheet → List Entry → Verdict
-askOf s es = verdictOf s (enteredMask es) (enteredValues es)
+abbrev pub ask_of : Sheet → List Entry → Verdict
+ask_of s es = verdict_of s (entered_mask es) (entered_values es)
 
-abbrev pub whyOf : Sheet → List Entry → Verdict
-whyOf s es = reasonOf s (enteredMask es) (enteredValues es)
+abbrev pub why_of : Sheet → List Entry → Verdict
+why_of s es = reason_of s (entered_mask es) (entered_values es)
 
 -- document 01's promise after an ASK
 abbrev pub PromisedFor : Sheet → List Entry → List ℕ → ℕ → List ℕ → ℕ → Type 0
-PromisedFor s es u cu o co = Promised s (enteredMask es) (enteredValues es) (askOf s es) u cu o co
+PromisedFor s es u cu o co = Promised s (entered_mask es) (entered_values es) (ask_of s es) u cu o co
 
 -- an answer's number, V and word
 pub record Tells (a : Answer) (number v word : ℕ) : Type 0 where
@@ -29,7 +29,7 @@ pub record Tells (a : Answer) (number v word : ℕ) : Type 0 where
 pub record Moved (x x' : Session) (es : List Entry) : Type 0 where
   pub cells : length x'.entries ≡ 64
   pub within : x'.len ≤ 64
-  pub stands : standingOf x' ≡ es
+  pub stands : standing_of x' ≡ es
   pub words : WordsKept x'
   pub under : x'.under ≡ x.under
   pub over : x'.over ≡ x.over
@@ -69,8 +69,8 @@ searches k = eqb k ASK || eqb k WHY
 -- The line k a b c on the sheet s, whose free variables are free: session and tables at entry and, primed, at exit, and the answer.
 pub record Step (s : Sheet) (free : ℕ) (x : Session) (u o : List ℕ) (k a b c : ℕ) (x' : Session) (u' o' : List ℕ) (number v word : ℕ) : Type 0 where
   -- the answer, and the entries that stand after it, are the reference model's
-  pub tells : Tells (line (sheetMeaning s) (standingOf x) k a b c).answer number v word
-  pub stands : standingOf x' ≡ (line (sheetMeaning s) (standingOf x) k a b c).entries
+  pub tells : Tells (line (sheet_meaning s) (standing_of x) k a b c).answer number v word
+  pub stands : standing_of x' ≡ (line (sheet_meaning s) (standing_of x) k a b c).entries
   pub sound : Sound s free x' u' o'
   -- every counted record is true, those that were counted stay, and the numbers behind the counts are as found
   pub kept : TablesGrown s u x.under o x.over u' x'.under o' x'.over
@@ -78,4 +78,4 @@ pub record Step (s : Sheet) (free : ℕ) (x : Session) (u o : List ℕ) (k a b c
   pub refused-same : 0 < number → Untouched x u o x' u' o'
   pub quiet_same : searches k ≡ false → Untouched x u o x' u' o'
   -- document 01's promise for an ASK
-  pub promised : number ≡ 0 → k ≡ ASK → PromisedFor s (standingOf x) u' x'.under o' x'.over
+  pub promised : number ≡ 0 → k ≡ ASK → PromisedFor s (standing_of x) u' x'.under o' x'.over

@@ -3,9 +3,9 @@ ghost use Rattle.std.specs.Prelude.{◌≡◌, cond, eqb, leb};
 ghost use Rattle.words.specs.Word.{bit};
 ghost use Rattle.sheet.specs.Refusal as Number;
 ghost use Rattle.model.specs.Model as Model;
-ghost use Rattle.model.specs.Model.{Meaning, lineRefusal};
-ghost use Rattle.session.specs.Sound.{standingOf, Shaped};
-ghost use Rattle.model.specs.Causes.{Opens, enterCause};
+ghost use Rattle.model.specs.Model.{Meaning, line_refusal};
+ghost use Rattle.session.specs.Sound.{standing_of, Shaped};
+ghost use Rattle.model.specs.Causes.{Opens, enter_cause};
 
 use crate::Session;
 use sheet::refusal;
@@ -63,7 +63,7 @@ fn has(word: u64, variable: u8) -> bool
 
 // Why an ENTER is refused, or 0.
 fn enter_cause(free: u64, mask: u64, a: u8, b: u8, c: u8) -> u8
-    ensures { result ≡ enterCause free mask a b c }
+    ensures { result ≡ enter_cause free mask a b c }
 {
     if !has(free, a) {
         return refusal::ENTER_NOT_FREE;
@@ -82,7 +82,7 @@ fn enter_cause(free: u64, mask: u64, a: u8, b: u8, c: u8) -> u8
 
 // Why a TAKE BACK is refused where n entries stand, or 0.
 fn take_back_cause(n: usize) -> u8
-    ensures { result ≡ cond (eqb n 0) Number.nothingEntered 0 }
+    ensures { result ≡ cond (eqb n 0) Number.nothing_entered 0 }
 {
     if n == 0 {
         return refusal::NOTHING_ENTERED;
@@ -92,7 +92,7 @@ fn take_back_cause(n: usize) -> u8
 
 // Why a READ is refused where n entries stand, or 0.
 fn read_cause(n: usize, a: u8) -> u8
-    ensures { result ≡ cond (leb n a) Number.noEntryThere 0 }
+    ensures { result ≡ cond (leb n a) Number.no_entry_there 0 }
 {
     if n <= a as usize {
         return refusal::NO_ENTRY_THERE;
@@ -103,7 +103,7 @@ fn read_cause(n: usize, a: u8) -> u8
 // The number by which a line is refused, or 0; free are the variables that may be entered.
 pub fn line_cause(session: Session, free: u64, k: u8, a: u8, b: u8, c: u8) -> u8
     requires { Shaped session }
-    ensures { (m : Meaning) → Opens m free → result ≡ lineRefusal m (standingOf session) k a b c }
+    ensures { (m : Meaning) → Opens m free → result ≡ line_refusal m (standing_of session) k a b c }
 {
     if unknown(k, a, b, c) {
         return refusal::LINE_UNKNOWN;

@@ -1,7 +1,7 @@
 // The entries of a session: put last, taken from the end, read. The cube of all of them goes with each, so that nothing ever walks them.
 ghost use Rattle.std.specs.Prelude.{◌≡◌, [], ◌∷◌, ◌++◌, ◌+◌, ◌-◌, ◌<◌, take};
 ghost use Rattle.model.specs.Entries.{entry_at};
-ghost use Rattle.session.specs.Sound.{standingOf, Shaped, Fresh, Empty};
+ghost use Rattle.session.specs.Sound.{standing_of, Shaped, Fresh, Empty};
 ghost use Rattle.session.specs.Step.{Moved};
 
 use crate::{Entry, Session};
@@ -28,7 +28,7 @@ pub fn empty() -> Session
 // The entry put last. Here alone an entry comes to stand.
 pub fn append(session: Session, entry: Entry) -> Session
     requires { Shaped session × (session.len < 64) × Fresh session entry.variable }
-    ensures { Moved session result (standingOf session ++ (entry ∷ [])) }
+    ensures { Moved session result (standing_of session ++ (entry ∷ [])) }
 {
     let mut longer = session;
     let n = session.len;
@@ -41,7 +41,7 @@ pub fn append(session: Session, entry: Entry) -> Session
 // The latest entry struck.
 pub fn remove_last(session: Session) -> Session
     requires { Shaped session × (0 < session.len) }
-    ensures { Moved session result (take (session.len - 1) (standingOf session)) }
+    ensures { Moved session result (take (session.len - 1) (standing_of session)) }
 {
     let mut shorter = session;
     let n = session.len - 1;
@@ -55,7 +55,7 @@ pub fn remove_last(session: Session) -> Session
 // The entry at a place; 0 is the oldest.
 pub fn entry_at(session: Session, place: usize) -> Entry
     requires { Shaped session × (place < session.len) }
-    ensures { result ≡ entry_at (standingOf session) place }
+    ensures { result ≡ entry_at (standing_of session) place }
 {
     session.entries[place]
 }

@@ -1,7 +1,7 @@
 // The session lent by `&mut` and stepped in place, one script line a step; thin over `line::step`.
 ghost use Rattle.std.specs.Prelude.{◌≡◌};
 ghost use Rattle.sheet.specs.Fields.{Sheet};
-ghost use Rattle.net.specs.Layout.{freeOf};
+ghost use Rattle.net.specs.Layout.{free_of};
 ghost use Rattle.session.specs.Sound.{OnNet};
 ghost use Rattle.session.specs.Step.{Step};
 
@@ -19,7 +19,7 @@ pub fn step<'s, 'n, 'u, 'o>(
     over: &'o mut [u32],
 ) -> Answer
     requires { (s : Sheet) × OnNet s net.old session.old under.old over.old }
-    ensures { (net.new ≡ net.old) × ((s : Sheet) → OnNet s net.old session.old under.old over.old → Step s (freeOf net.old) session.old under.old over.old k a b c session.new under.new over.new result.number result.v result.word) }
+    ensures { (net.new ≡ net.old) × ((s : Sheet) → OnNet s net.old session.old under.old over.old → Step s (free_of net.old) session.old under.old over.old k a b c session.new under.new over.new result.number result.v result.word) }
 {
     let next = line::step(*session, k, a, b, c, net, under, over);
     *session = next.session;

@@ -1,11 +1,11 @@
 // One script line by value.
 ghost use Rattle.std.specs.Prelude.{◌≡◌, [], ◌∷◌, ◌++◌, ◌+◌, ◌-◌, ◌<◌, length, take};
 ghost use Rattle.sheet.specs.Fields.{Sheet};
-ghost use Rattle.net.specs.Layout.{freeOf};
+ghost use Rattle.net.specs.Layout.{free_of};
 ghost use Rattle.model.specs.Model.{reply, refused, counted, told, judged};
 ghost use Rattle.model.specs.Entries.{entry_at};
-ghost use Rattle.session.specs.Sound.{standingOf, Shaped, Fresh, OnNet};
-ghost use Rattle.session.specs.Step.{askOf, whyOf, PromisedFor, Tells, Replies, Recounted, Searches, Step};
+ghost use Rattle.session.specs.Sound.{standing_of, Shaped, Fresh, OnNet};
+ghost use Rattle.session.specs.Step.{ask_of, why_of, PromisedFor, Tells, Replies, Recounted, Searches, Step};
 
 use crate::causes::{ASK, ENTER, READ, TAKE_BACK};
 use crate::{Answer, Entry, Session, Stepped, causes, entries};
@@ -14,7 +14,7 @@ use records::Counts;
 // A line that is refused by that number: nothing changes.
 fn refuse(session: Session, number: u8) -> Stepped
     requires { Shaped session }
-    ensures { Replies session (reply (refused number) (standingOf session)) result.session result.answer.number result.answer.v result.answer.word }
+    ensures { Replies session (reply (refused number) (standing_of session)) result.session result.answer.number result.answer.v result.answer.word }
 {
     let refusal = Answer {
         number,
@@ -40,7 +40,7 @@ fn tell_entry(entry: Entry) -> Answer
 
 fn enter(session: Session, variable: u8, value: u8, desk: u8) -> Stepped
     requires { Shaped session × (session.len < 64) × Fresh session variable }
-    ensures { Replies session (reply (counted (length (standingOf session) + 1)) (standingOf session ++ (record { variable = variable; value = value; desk = desk } ∷ []))) result.session result.answer.number result.answer.v result.answer.word }
+    ensures { Replies session (reply (counted (length (standing_of session) + 1)) (standing_of session ++ (record { variable = variable; value = value; desk = desk } ∷ []))) result.session result.answer.number result.answer.v result.answer.word }
 {
     let n = session.len + 1;
     let entry = Entry {
@@ -62,7 +62,7 @@ fn enter(session: Session, variable: u8, value: u8, desk: u8) -> Stepped
 
 fn take_back(session: Session) -> Stepped
     requires { Shaped session × (0 < session.len) }
-    ensures { Replies session (reply (told (entry_at (standingOf session) (length (standingOf session) - 1))) (take (length (standingOf session) - 1) (standingOf session))) result.session result.answer.number result.answer.v result.answer.word }
+    ensures { Replies session (reply (told (entry_at (standing_of session) (length (standing_of session) - 1))) (take (length (standing_of session) - 1) (standing_of session))) result.session result.answer.number result.answer.v result.answer.word }
 {
     let last = session.len - 1;
     let answer = tell_entry(entries::entry_at(session, last));
@@ -75,7 +75,7 @@ fn take_back(session: Session) -> Stepped
 
 fn read(session: Session, place: u8) -> Stepped
     requires { Shaped session × (place < session.len) }
-    ensures { Replies session (reply (told (entry_at (standingOf session) place)) (standingOf session)) result.session result.answer.number result.answer.v result.answer.word }
+    ensures { Replies session (reply (told (entry_at (standing_of session) place)) (standing_of session)) result.session result.answer.number result.answer.v result.answer.word }
 {
     let i = place as usize;
     let answer = tell_entry(entries::entry_at(session, i));
@@ -113,7 +113,7 @@ fn recount(session: Session, under: usize, over: usize) -> Session
 fn ask(session: Session, net: &mut [u64], under: &mut [u32], over: &mut [u32]) -> Stepped
     requires { (s : Sheet) × OnNet s net.old session under.old over.old }
     ensures net_unchanged { net.new ≡ net.old }
-    ensures searches { (s : Sheet) → OnNet s net.old session under.old over.old → Searches s session under.old over.old (askOf s (standingOf session)) result.session under.new over.new result.answer.number result.answer.v result.answer.word × PromisedFor s (standingOf session) under.new result.session.under over.new result.session.over }
+    ensures searches { (s : Sheet) → OnNet s net.old session under.old over.old → Searches s session under.old over.old (ask_of s (standing_of session)) result.session under.new over.new result.answer.number result.answer.v result.answer.word × PromisedFor s (standing_of session) under.new result.session.under over.new result.session.over }
 {
     let kept = Counts {
         under: session.under,
@@ -133,7 +133,7 @@ fn ask(session: Session, net: &mut [u64], under: &mut [u32], over: &mut [u32]) -
 fn why(session: Session, net: &mut [u64], under: &mut [u32], over: &mut [u32]) -> Stepped
     requires { (s : Sheet) × OnNet s net.old session under.old over.old }
     ensures net_unchanged { net.new ≡ net.old }
-    ensures searches { (s : Sheet) → OnNet s net.old session under.old over.old → Searches s session under.old over.old (whyOf s (standingOf session)) result.session under.new over.new result.answer.number result.answer.v result.answer.word }
+    ensures searches { (s : Sheet) → OnNet s net.old session under.old over.old → Searches s session under.old over.old (why_of s (standing_of session)) result.session under.new over.new result.answer.number result.answer.v result.answer.word }
 {
     let kept = Counts {
         under: session.under,
@@ -162,7 +162,7 @@ pub fn step(
     over: &mut [u32],
 ) -> Stepped
     requires { (s : Sheet) × OnNet s net.old session under.old over.old }
-    ensures { (net.new ≡ net.old) × ((s : Sheet) → OnNet s net.old session under.old over.old → Step s (freeOf net.old) session under.old over.old k a b c result.session under.new over.new result.answer.number result.answer.v result.answer.word) }
+    ensures { (net.new ≡ net.old) × ((s : Sheet) → OnNet s net.old session under.old over.old → Step s (free_of net.old) session under.old over.old k a b c result.session under.new over.new result.answer.number result.answer.v result.answer.word) }
 {
     let number = causes::line_cause(session, net::free(&net[..]), k, a, b, c);
     if number != 0 {

@@ -1,7 +1,7 @@
 -- What the walks that hold a reader in a local share: the calls of `reader::new` and `reader::next`, each as one step. All that it knows of the two is that each meets its contract.
 --     B κ              the type of a reader of a sheet at κ.        New, Next    the contracts
---     calls-new        a reader at frame n is made
---     calls-next       the local at l, a reader at κ, is lent to `next`, and taken back at its last value
+--     calls_new        a reader at frame n is made
+--     calls_next       the local at l, a reader at κ, is lent to `next`, and taken back at its last value
 --     type_at          the type of a local, as a walk with a loop spells it in its context. `run::run_lines` uses it too
 -- `next` asks that the slice's lifetime κ outlive the loan, so the loan is for ν ∷ κ, with ν made for the call: half of κ's token is met with ν's. After the call ν is ended, the local is taken back, and κ's token is whole again.
 -- A call's operands are read with what the callee asks in front, and at `next` also the lender's part and the way back to ν's token.
@@ -132,30 +132,30 @@ module _ {M : Type 1} {𝓤 : Ura M} (𝓛 : Logic 𝓤) (κ : Lft) where
       abbrev Sheet : Fml
       Sheet = (ShrSlice (named 0) κ u8).own_val s (value s ∷ [])
 
-      abbrev to-new : (New 𝓛 at_mem run).Ghost
-      to-new = (((κ, tt), (q, tt), tt, (s, (n, (m, tt))), (value s ∷ [], (vint w64 n ∷ [], (vbool m ∷ [], tt)))), tt)
+      abbrev to_new : (New 𝓛 at_mem run).Ghost
+      to_new = (((κ, tt), (q, tt), tt, (s, (n, (m, tt))), (value s ∷ [], (vint w64 n ∷ [], (vbool m ∷ [], tt)))), tt)
 
-      goes-new : ent 𝓤 (⋆ 𝓛 (‵ (flft κ q) ∷ ‵ ftrue ∷ ‵ Sheet ∷ [])) ((New 𝓛 at_mem run).pre to-new)
-      goes-new =
+      goes_new : ent 𝓤 (⋆ 𝓛 (‵ (flft κ q) ∷ ‵ ftrue ∷ ‵ Sheet ∷ [])) ((New 𝓛 at_mem run).pre to_new)
+      goes_new =
           qed 𝓛 (‵ (flft κ q) ∷ ‵ ftrue ∷ ‵ Sheet ∷ []) ∵ join ! $ nothing ! $ owned ! bool (Is bool) (bool_Makes 𝓛) m _ refl $ fjoin ! $ owned ! usize (Is usize) (uint_Makes 𝓛 w64) n _ (refl, n-fits) $ fjoin ! $
           move ! (2 ∷ 0 ∷ []) $ fjoin ! $ move ! (1 ∷ 0 ∷ []) $ join ! $ frame ! $ done !
 
       abbrev Made : Reader → Type 0
       Made r = (r.bytes ≡ s) × (r.at ≡ n) × (r.wide ≡ m)
 
-      new-said : (r : Reader) → ent 𝓤 (ensured 𝓛 new.ended (new.clauses 𝓛 at_mem run) (κ, tt) (s, (n, (m, tt))) tt r) (fact 𝓤 (Made r))
-      new-said r = ex_e 𝓤 _ (λ ws. snd∗ 𝓤 (sem 𝓛 (lasts new.ended (κ, tt) (s, (n, (m, tt))) ws)) (fact 𝓤 (Made r)))
+      new_said : (r : Reader) → ent 𝓤 (ensured 𝓛 new.ended (new.clauses 𝓛 at_mem run) (κ, tt) (s, (n, (m, tt))) tt r) (fact 𝓤 (Made r))
+      new_said r = ex_e 𝓤 _ (λ ws. snd∗ 𝓤 (sem 𝓛 (lasts new.ended (κ, tt) (s, (n, (m, tt))) ws)) (fact 𝓤 (Made r)))
 
-      pub calls-new : {C : Calls 𝓤 H} {Λ : Loops 𝓤 H} {E : Env 𝓤 H} {Γ : List (Item 𝓤)} {xs : List Operand} {to : Place} {rest : Code} {post : Post 𝓤 H} → FmC 𝓤 H 𝓛.laws C → Triple 𝓤 (C #sheet·reader·new) (New 𝓛 at_mem run)
+      pub calls_new : {C : Calls 𝓤 H} {Λ : Loops 𝓤 H} {E : Env 𝓤 H} {Γ : List (Item 𝓤)} {xs : List Operand} {to : Place} {rest : Code} {post : Post 𝓤 H} → FmC 𝓤 H 𝓛.laws C → Triple 𝓤 (C #sheet·reader·new) (New 𝓛 at_mem run)
           → ((P : SProp 𝓤) → Opds (Go {0}) 𝓛 (raw P ∷ ‵ Sheet ∷ Γ) E xs (value s ∷ vint w64 n ∷ vbool m ∷ []))
           → (Typed (T'.mir erased) (T'.lowered (start s n m)) → Sq 𝓛 (Own (start s n m) ∷ ‵ (flft κ q) ∷ ‵ Sheet ∷ Γ) (lands C Λ E to (T'.lowered (start s n m)) rest post))
           → Sq 𝓛 (‵ (flft κ q) ∷ ‵ Sheet ∷ Γ) (runs C Λ E (seq (call #sheet·reader·new xs to) rest) post)
-      calls-new {C} {Λ} {E} {to = to} {rest = rest} {post = post} fm known os k =
+      calls_new {C} {Λ} {E} {to = to} {rest = rest} {post = post} fm known os k =
           move ! (1 ∷ []) $ use1 𝓛 (‵ Sheet ⊛ ‵ Sheet) ((shr_slice_copy 𝓛 (named 0) κ u8).twice s (value s ∷ [])) $ split ! $ nothing ! $
-          move ! (3 ∷ 0 ∷ 1 ∷ []) $ use3 𝓛 (raw ((New 𝓛 at_mem run).pre to-new)) goes-new $
-          calls_at ! fm (New 𝓛 at_mem run) known to-new (os _) (λ u.
+          move ! (3 ∷ 0 ∷ 1 ∷ []) $ use3 𝓛 (raw ((New 𝓛 at_mem run).pre to_new)) goes_new $
+          calls_at ! fm (New 𝓛 at_mem run) known to_new (os _) (λ u.
           use1 𝓛 (later (some (λ (r : Reader). ((‵ (flft κ q) ⊛ ‵ ftrue) ⊛ ‵ ((B κ).own r (u ∷ []))) ⊛ raw (ensured 𝓛 new.ended (new.clauses 𝓛 at_mem run) (κ, tt) (s, (n, (m, tt))) tt r)))) (id⊢ 𝓤 _) $ await ! tt $ pick ! (λ r.
-          split ! $ move ! (1 ∷ []) $ use1 𝓛 (raw (fact 𝓤 (Made r))) (new-said r) $ heard ! (Made r) (λ e. split ! $
+          split ! $ move ! (1 ∷ []) $ use1 𝓛 (raw (fact 𝓤 (Made r))) (new_said r) $ heard ! (Made r) (λ e. split ! $
           rewrite ! 1 (λ (z : Reader). ‵ ((B κ).own z (u ∷ []))) (λ i. record { bytes = e.0 i; at = e.1 i; wide = e.2 i }) refl $ split ! $ move ! (1 ∷ []) $ drop ! $ move ! (1 ∷ 0 ∷ []) $
           -- [what the reader owns; the token; what s owns; …], and the reader's machine value
           peeks ! (B κ) (Is (B κ)) (shows 𝓛 (B κ)) (start s n m) (u ∷ []) (λ is.
@@ -179,27 +179,27 @@ module _ {M : Type 1} {𝓤 : Ura M} (𝓛 : Logic 𝓤) (κ : Lft) where
       abbrev Loan : ℕ → GName → Fml
       Loan ν δ = (MutRef (named 0) (ν ∷ κ) (B κ)).own_val (lent δ) (vptr l 0 ∷ [])
 
-      abbrev to-next : ℕ → GName → (Next 𝓛 at_mem run).Ghost
-      to-next ν δ = (((ν ∷ κ, (κ, tt)), (qr, (ql, tt)), (meet_⊑_right (ν ∷ []) κ, tt), (lent δ, tt), (vptr l 0 ∷ [], tt)), tt)
+      abbrev to_next : ℕ → GName → (Next 𝓛 at_mem run).Ghost
+      to_next ν δ = (((ν ∷ κ, (κ, tt)), (qr, (ql, tt)), (meet_⊑_right (ν ∷ []) κ, tt), (lent δ, tt), (vptr l 0 ∷ [], tt)), tt)
 
-      goes-next : (ν : ℕ) (δ : GName) → ent 𝓤 (⋆ 𝓛 (‵ (flft (ν ∷ κ) qr) ∷ ‵ (flft κ ql) ∷ ‵ (Loan ν δ) ∷ [])) ((Next 𝓛 at_mem run).pre (to-next ν δ))
-      goes-next ν δ =
+      goes_next : (ν : ℕ) (δ : GName) → ent 𝓤 (⋆ 𝓛 (‵ (flft (ν ∷ κ) qr) ∷ ‵ (flft κ ql) ∷ ‵ (Loan ν δ) ∷ [])) ((Next 𝓛 at_mem run).pre (to_next ν δ))
+      goes_next ν δ =
           qed 𝓛 (‵ (flft (ν ∷ κ) qr) ∷ ‵ (flft κ ql) ∷ ‵ (Loan ν δ) ∷ []) ∵
           nothing ! $ move ! (2 ∷ 0 ∷ []) $ join ! $ move ! (1 ∷ 0 ∷ []) $ join ! $ nothing ! $ move ! (2 ∷ 0 ∷ []) $ fjoin ! $ move ! (1 ∷ 0 ∷ []) $ join ! $ frame ! $ done !
 
-      pub calls-next : {C : Calls 𝓤 H} {Λ : Loops 𝓤 H} {E : Env 𝓤 H} {Γ : List (Item 𝓤)} {xs : List Operand} {to : Place} {rest : Code} {post : Post 𝓤 H} → FmC 𝓤 H 𝓛.laws C → Triple 𝓤 (C #sheet·reader·next) (Next 𝓛 at_mem run)
+      pub calls_next : {C : Calls 𝓤 H} {Λ : Loops 𝓤 H} {E : Env 𝓤 H} {Γ : List (Item 𝓤)} {xs : List Operand} {to : Place} {rest : Code} {post : Post 𝓤 H} → FmC 𝓤 H 𝓛.laws C → Triple 𝓤 (C #sheet·reader·next) (Next 𝓛 at_mem run)
           → ((P : SProp 𝓤) (i j : Item 𝓤) → Opds (Go {0}) 𝓛 (raw P ∷ i ∷ j ∷ Γ) E xs (vptr l 0 ∷ []))
           → ((d : Frame) (r : Reader) → Says h d r → Typed F'.mir (F'.lowered d) → Sq 𝓛 (Cell l r ∷ Own r ∷ ‵ (flft κ q) ∷ ‵ ((F.the_row).own_val d (F'.lowered d ∷ [])) ∷ Γ) (lands C Λ E to (F'.lowered d) rest post))
           → Sq 𝓛 (Cell l h ∷ Own h ∷ ‵ (flft κ q) ∷ Γ) (runs C Λ E (seq (call #sheet·reader·next xs to) rest) post)
-      calls-next {C} {Λ} {E} {to = to} {rest = rest} {post = post} fm known os k =
+      calls_next {C} {Λ} {E} {to = to} {rest = rest} {post = post} fm known os k =
           use1 𝓛 (‵ (cell_at full_share (B κ).mir (T'.lowered h ∷ []) l 0)) (𝓛.laws.at_raw full_share (T'.mir erased) l 0 (T'.lowered h)) $ use2 𝓛 (‵ (part_at (B κ) full_share h l 0)) (lies_in h l) $
           lft_new ! tt (λ ν. move ! (2 ∷ []) $ use1 𝓛 (‵ (flft κ ql) ⊛ ‵ (flft κ qr)) (𝓛.lfts.lft_split κ q) $ split ! $ move ! (2 ∷ 1 ∷ []) $
           use2 𝓛 (‵ (flft (ν ∷ κ) qr) ⊛ raw (Rest 𝓛 ν qr)) (within_token 𝓛 ν κ qr) $ split ! $
           -- [ν ∷ κ's token; the way back; κ's left half; the reader in its cell; …]
           move ! (3 ∷ []) $ use1 𝓛 (later (some (λ (δ : GName). ‵ (Loan ν δ) ⊛ ‵ (flent (ν ∷ κ) (Body (mem (B κ)) l 0 δ))))) (lends_ref 𝓛 (B κ) (named 0) (ν ∷ κ) h l 0) $ await ! tt $ pick ! (λ δ. split ! $
-          move ! (2 ∷ 4 ∷ 0 ∷ []) $ use3 𝓛 (raw ((Next 𝓛 at_mem run).pre (to-next ν δ))) (goes-next ν δ) $
+          move ! (2 ∷ 4 ∷ 0 ∷ []) $ use3 𝓛 (raw ((Next 𝓛 at_mem run).pre (to_next ν δ))) (goes_next ν δ) $
           -- [what is asked; the lender's part; the way back; …]
-          calls_at ! fm (Next 𝓛 at_mem run) known (to-next ν δ) (os _ _ _) (λ u.
+          calls_at ! fm (Next 𝓛 at_mem run) known (to_next ν δ) (os _ _ _) (λ u.
           use1 𝓛 (later (some (λ (d : Frame). ((‵ (flft (ν ∷ κ) qr) ⊛ ‵ (flft κ ql) ⊛ ‵ ftrue) ⊛ ‵ ((F.the_row).own_val d (u ∷ []))) ⊛ raw (ensured 𝓛 next.ended (next.clauses 𝓛 at_mem run) (ν ∷ κ, (κ, tt)) (lent δ, tt) tt d)))) (id⊢ 𝓤 _) $ await ! tt $ pick ! (λ d.
           split ! $ move ! (1 ∷ []) $ use1 𝓛 (some (λ (ws : Reader × Unit {0}). ‵ (lasts next.ended (ν ∷ κ, (κ, tt)) (lent δ, tt) ws) ⊛ raw (fact 𝓤 (Says h d ws.0)))) (id⊢ 𝓤 _) $ pick ! (λ ws.
           split ! $ move ! (1 ∷ []) $ heard ! (Says h d ws.0) (λ e. fsplit ! $ move ! (1 ∷ []) $ drop ! $ move ! (1 ∷ []) $ split ! $ split ! $ move ! (1 ∷ []) $ split ! $ move ! (1 ∷ []) $ drop ! $

@@ -25,9 +25,9 @@ unfoldable pub first : List Cause → Refusal
 first [] = accepted
 first (c ∷ cs) = cond c.holds (told c) (first cs)
 
-unfoldable pub someHolds : List Cause → Bool
-someHolds [] = false
-someHolds (c ∷ cs) = c.holds || someHolds cs
+unfoldable pub some_holds : List Cause → Bool
+some_holds [] = false
+some_holds (c ∷ cs) = c.holds || some_holds cs
 
 -- no cause bears the number 0
 abbrev pub Numbered : List Cause → Type 0
@@ -40,42 +40,42 @@ pub record Foremost (cs : List Cause) (r : Refusal) : Type 0 where
   pub cause : Cause
   pub after : List Cause
   pub splits : cs ≡ before ++ (cause ∷ after)
-  pub none : someHolds before ≡ false
+  pub none : some_holds before ≡ false
   pub holds : cause.holds ≡ true
   pub is : r ≡ told cause
 
 -- ---- lists in a row
 
-pub some-append : (cs ds : List Cause) → someHolds (cs ++ ds) ≡ someHolds cs || someHolds ds
-unfolding someHolds
-some-append [] ds = refl
-some-append (c ∷ cs) ds = by_bool c.holds (λ e. rw e) (λ e. rw e (some-append cs ds))
+pub some_append : (cs ds : List Cause) → some_holds (cs ++ ds) ≡ some_holds cs || some_holds ds
+unfolding some_holds
+some_append [] ds = refl
+some_append (c ∷ cs) ds = by_bool c.holds (λ e. rw e) (λ e. rw e (some_append cs ds))
 
-pub first-append : (cs ds : List Cause) → first (cs ++ ds) ≡ cond (someHolds cs) (first cs) (first ds)
-unfolding first someHolds
-first-append [] ds = refl
-first-append (c ∷ cs) ds = by_bool c.holds (λ e. rw e) (λ e. rw e (first-append cs ds))
+pub first_append : (cs ds : List Cause) → first (cs ++ ds) ≡ cond (some_holds cs) (first cs) (first ds)
+unfolding first some_holds
+first_append [] ds = refl
+first_append (c ∷ cs) ds = by_bool c.holds (λ e. rw e) (λ e. rw e (first_append cs ds))
 
 -- the first of the later list counts where none of the earlier holds
-pub first-later : (cs ds : List Cause) → someHolds cs ≡ false → first (cs ++ ds) ≡ first ds
-first-later cs ds e = first-append cs ds ∙ rw e
+pub first-later : (cs ds : List Cause) → some_holds cs ≡ false → first (cs ++ ds) ≡ first ds
+first-later cs ds e = first_append cs ds ∙ rw e
 
-pub first-earlier : (cs ds : List Cause) → someHolds cs ≡ true → first (cs ++ ds) ≡ first cs
-first-earlier cs ds e = first-append cs ds ∙ rw e
+pub first_earlier : (cs ds : List Cause) → some_holds cs ≡ true → first (cs ++ ds) ≡ first cs
+first_earlier cs ds e = first_append cs ds ∙ rw e
 
-pub numbered-append : (cs ds : List Cause) → Numbered cs → Numbered ds → Numbered (cs ++ ds)
-numbered-append [] ds n m = m
-numbered-append (c ∷ cs) ds n m = (n.0, numbered-append cs ds n.1 m)
+pub numbered_append : (cs ds : List Cause) → Numbered cs → Numbered ds → Numbered (cs ++ ds)
+numbered_append [] ds n m = m
+numbered_append (c ∷ cs) ds n m = (n.0, numbered_append cs ds n.1 m)
 
 -- ---- number 0 is told exactly if none holds
 
-pub none_first : (cs : List Cause) → someHolds cs ≡ false → first cs ≡ accepted
-unfolding first someHolds
+pub none_first : (cs : List Cause) → some_holds cs ≡ false → first cs ≡ accepted
+unfolding first some_holds
 none_first [] e = refl
-none_first (c ∷ cs) e = let p = or-false c.holds (someHolds cs) e in rw p.0 (none_first cs p.1)
+none_first (c ∷ cs) e = let p = or-false c.holds (some_holds cs) e in rw p.0 (none_first cs p.1)
 
-pub first-none : (cs : List Cause) → Numbered cs → (first cs).number ≡ 0 → someHolds cs ≡ false
-unfolding first someHolds
+pub first-none : (cs : List Cause) → Numbered cs → (first cs).number ≡ 0 → some_holds cs ≡ false
+unfolding first some_holds
 first-none [] n e = refl
 first-none (c ∷ cs) n e = by_bool c.holds
     (λ h. let z : c.number ≡ 0 = ap (λ (t : Bool). (cond t (told c) (first cs)).number) (sym h) ∙ e in absurd (omega (arith, n.0)))
@@ -83,17 +83,17 @@ first-none (c ∷ cs) n e = by_bool c.holds
 
 -- ---- number n at place k is told exactly if it is foremost
 
-pub foremost-first : {cs : List Cause} {r : Refusal} → Foremost cs r → first cs ≡ r
+pub foremost_first : {cs : List Cause} {r : Refusal} → Foremost cs r → first cs ≡ r
 unfolding first
-foremost-first f =
+foremost_first f =
     ap first f.splits ∙ first-later f.before (f.cause ∷ f.after) f.none ∙ rw f.holds (sym f.is)
 
-pub first-foremost : (cs : List Cause) → someHolds cs ≡ true → Foremost cs (first cs)
-unfolding first someHolds
-first-foremost [] e = clash false e refl
-first-foremost (c ∷ cs) e = by_bool c.holds
+pub first_foremost : (cs : List Cause) → some_holds cs ≡ true → Foremost cs (first cs)
+unfolding first some_holds
+first_foremost [] e = clash false e refl
+first_foremost (c ∷ cs) e = by_bool c.holds
     (λ h. record { before = []; cause = c; after = cs; splits = refl; none = refl; holds = h; is = rw h })
-    (λ h. later h (first-foremost cs (ap (λ (t : Bool). t || someHolds cs) (sym h) ∙ e)))
+    (λ h. later h (first_foremost cs (ap (λ (t : Bool). t || some_holds cs) (sym h) ∙ e)))
   where
     later : c.holds ≡ false → Foremost cs (first cs) → Foremost (c ∷ cs) (cond c.holds (told c) (first cs))
     later h f =
@@ -108,8 +108,8 @@ first-foremost (c ∷ cs) e = by_bool c.holds
         }
 
 -- a number above 0 is told with its place exactly if that cause holds and none before it does
-pub foremost-exactly : (cs : List Cause) (n k : ℕ) → 0 < n → (first cs ≡ record { number = n; place = k }) ↔ Foremost cs (record { number = n; place = k })
-foremost-exactly cs n k h = (λ e. subst (Foremost cs) e (first-foremost cs (holds e)), λ f. foremost-first f)
+pub foremost_exactly : (cs : List Cause) (n k : ℕ) → 0 < n → (first cs ≡ record { number = n; place = k }) ↔ Foremost cs (record { number = n; place = k })
+foremost_exactly cs n k h = (λ e. subst (Foremost cs) e (first_foremost cs (holds e)), λ f. foremost_first f)
   where
-    holds : first cs ≡ record { number = n; place = k } → someHolds cs ≡ true
-    holds e = by_bool (someHolds cs) (λ t. t) (λ t. absurd (omega (arith, ap (λ (r : Refusal). r.number) (sym (none_first cs t) ∙ e))))
+    holds : first cs ≡ record { number = n; place = k } → some_holds cs ≡ true
+    holds e = by_bool (some_holds cs) (λ t. t) (λ t. absurd (omega (arith, ap (λ (r : Refusal). r.number) (sym (none_first cs t) ∙ e))))

@@ -8,18 +8,18 @@ use Rattle.std.proofs.lemmas.Nat.{and_le_l}
 use borrow.Author.Tests.{eq-eqb, eqb-true}
 use Rattle.words.specs.Logic.{by_bool, clash, tests}
 use Rattle.words.specs.Word.{bit, bit-and, bit-none, bit-pow, bit_high, ext}
-use Rattle.words.specs.Mask.{without, rangeMask, bit-rangeMask, range-lt}
+use Rattle.words.specs.Mask.{without, range_mask, bit-range_mask, range-lt}
 use Rattle.formula.specs.Assignment.{within}
 use Rattle.formula.specs.Formula.{Formula}
-use Rattle.formula.specs.Ask.{freeMask}
-use Rattle.formula.specs.FreeMask.{freeMask-never, freeMask-input, freeMask-neg, freeMask-gate, freeMask-quant}
-use Rattle.sheet.specs.Cause.{Cause, Refusal, first, someHolds, Numbered, Foremost, first-none, none_first, first-foremost}
+use Rattle.formula.specs.Ask.{free_mask}
+use Rattle.formula.specs.FreeMask.{free_mask-never, free_mask-input, free_mask-neg, free_mask-gate, free_mask-quant}
+use Rattle.sheet.specs.Cause.{Cause, Refusal, first, some_holds, Numbered, Foremost, first-none, none_first, first_foremost}
 use Rattle.sheet.specs.Refusal as Number
 use Rattle.form.specs.Form.{variables}
 use Rattle.sheet.specs.Fields.{Sheet}
 use Rattle.sheet.specs.Frames.{formula, build, Fit}
 use Rattle.sheet.specs.Rules as Rules
-use Rattle.sheet.specs.Rules.{last, badVariables, cause, binds, namesInput, namesGauge, Past, meet, namedBoth, bindsGauge}
+use Rattle.sheet.specs.Rules.{last, bad_variables, cause, binds, names_input, names_gauge, Past, meet, named_both, binds_gauge}
 use Rattle.sheet.specs.RuleLaws.{meet-none, none-meet, range-fits}
 use Rattle.form.specs.declared.Form.{Form}
 use Rattle.sheet.specs.declared.Kind.{Kind}
@@ -30,151 +30,151 @@ use Rattle.sheet.specs.declared.rules.Seen.{Seen}
 pub record Checks (cs : List Cause) (s : Sheet) (number place word gauges : ℕ) : Type 0 where
   pub number_is : number ≡ (first cs).number
   pub place_is : place ≡ (first cs).place
-  pub free-is : word ≡ cond (someHolds cs) 0 (freeMask (variables s.form) (formula s (last s)))
-  pub gauges-are : gauges ≡ cond (someHolds cs) 0 (Rules.gauges s)
+  pub free-is : word ≡ cond (some_holds cs) 0 (free_mask (variables s.form) (formula s (last s)))
+  pub gauges_are : gauges ≡ cond (some_holds cs) 0 (Rules.gauges s)
 
 module _ {cs : List Cause} {s : Sheet} {n p f g : ℕ} (c : Checks cs s n p f g) where
   -- number 0: no cause holds, and the words are those of the last frame's free variables and of the gauges
-  pub checks-none : Numbered cs → n ≡ 0 → someHolds cs ≡ false
-  checks-none m z = first-none cs m (sym c.number_is ∙ z)
+  pub checks_none : Numbered cs → n ≡ 0 → some_holds cs ≡ false
+  checks_none m z = first-none cs m (sym c.number_is ∙ z)
 
-  pub checks-free : someHolds cs ≡ false → f ≡ freeMask (variables s.form) (formula s (last s))
-  checks-free e = c.free-is ∙ rw e
+  pub checks_free : some_holds cs ≡ false → f ≡ free_mask (variables s.form) (formula s (last s))
+  checks_free e = c.free-is ∙ rw e
 
-  pub checks-gauges : someHolds cs ≡ false → g ≡ Rules.gauges s
-  checks-gauges e = c.gauges-are ∙ rw e
+  pub checks_gauges : some_holds cs ≡ false → g ≡ Rules.gauges s
+  checks_gauges e = c.gauges_are ∙ rw e
 
   -- any other: the foremost cause is told, and the words are 0
-  checks-some : (n ≡ 0 → ⊥) → someHolds cs ≡ true
-  checks-some z = by_bool (someHolds cs) (λ t. t) (λ t. absurd (z (c.number_is ∙ ap (λ (r : Refusal). r.number) (none_first cs t))))
+  checks_some : (n ≡ 0 → ⊥) → some_holds cs ≡ true
+  checks_some z = by_bool (some_holds cs) (λ t. t) (λ t. absurd (z (c.number_is ∙ ap (λ (r : Refusal). r.number) (none_first cs t))))
 
-  pub checks-foremost : (n ≡ 0 → ⊥) → Foremost cs (record { number = n; place = p })
-  checks-foremost z =
+  pub checks_foremost : (n ≡ 0 → ⊥) → Foremost cs (record { number = n; place = p })
+  checks_foremost z =
       subst (Foremost cs) (ap₂ (λ (x y : ℕ). record { number = x; place = y }) (sym c.number_is) (sym c.place_is))
-      (first-foremost cs (checks-some z))
+      (first_foremost cs (checks_some z))
 
-  pub checks-unfree : (n ≡ 0 → ⊥) → f ≡ 0
-  checks-unfree z = c.free-is ∙ rw (checks-some z)
+  pub checks_unfree : (n ≡ 0 → ⊥) → f ≡ 0
+  checks_unfree z = c.free-is ∙ rw (checks_some z)
 
-  pub checks-ungauged : (n ≡ 0 → ⊥) → g ≡ 0
-  checks-ungauged z = c.gauges-are ∙ rw (checks-some z)
+  pub checks_ungauged : (n ≡ 0 → ⊥) → g ≡ 0
+  checks_ungauged z = c.gauges_are ∙ rw (checks_some z)
 
 -- the same of an answer that has these parts
-pub same-checks : (cs : List Cause) (s : Sheet) (n p f g n' p' f' g' : ℕ) → (n' ≡ n) × (p' ≡ p) × (f' ≡ f) × (g' ≡ g) → Checks cs s n p f g → Checks cs s n' p' f' g'
-same-checks cs s n p f g n' p' f' g' e c = record {
+pub same_checks : (cs : List Cause) (s : Sheet) (n p f g n' p' f' g' : ℕ) → (n' ≡ n) × (p' ≡ p) × (f' ≡ f) × (g' ≡ g) → Checks cs s n p f g → Checks cs s n' p' f' g'
+same_checks cs s n p f g n' p' f' g' e c = record {
   number_is = e.0 ∙ c.number_is;
   place_is = e.1 ∙ c.place_is;
   free-is = e.2 ∙ c.free-is;
-  gauges-are = e.3 ∙ c.gauges-are;
+  gauges_are = e.3 ∙ c.gauges_are;
 }
 
 -- ---- the variables that a kind binds, names by an INPUT and names as gauges, as words
 
-unfoldable pub boundMask : Kind → ℕ
-boundMask Never = 0
-boundMask (Input x) = 0
-boundMask (Not a) = 0
-boundMask (And a b) = 0
-boundMask (Or a b) = 0
-boundMask (Exists a b c) = rangeMask b c
-boundMask (Forall a b c) = rangeMask b c
-boundMask (Gauge x) = 0
+unfoldable pub bound_mask : Kind → ℕ
+bound_mask Never = 0
+bound_mask (Input x) = 0
+bound_mask (Not a) = 0
+bound_mask (And a b) = 0
+bound_mask (Or a b) = 0
+bound_mask (Exists a b c) = range_mask b c
+bound_mask (Forall a b c) = range_mask b c
+bound_mask (Gauge x) = 0
 
-unfoldable pub inputMask : Kind → ℕ
-inputMask Never = 0
-inputMask (Input x) = 2 ^ x
-inputMask (Not a) = 0
-inputMask (And a b) = 0
-inputMask (Or a b) = 0
-inputMask (Exists a b c) = 0
-inputMask (Forall a b c) = 0
-inputMask (Gauge x) = 0
+unfoldable pub input_mask : Kind → ℕ
+input_mask Never = 0
+input_mask (Input x) = 2 ^ x
+input_mask (Not a) = 0
+input_mask (And a b) = 0
+input_mask (Or a b) = 0
+input_mask (Exists a b c) = 0
+input_mask (Forall a b c) = 0
+input_mask (Gauge x) = 0
 
-unfoldable pub gaugeMask : Kind → ℕ
-gaugeMask Never = 0
-gaugeMask (Input x) = 0
-gaugeMask (Not a) = 0
-gaugeMask (And a b) = 0
-gaugeMask (Or a b) = 0
-gaugeMask (Exists a b c) = 0
-gaugeMask (Forall a b c) = 0
-gaugeMask (Gauge x) = 2 ^ x
+unfoldable pub gauge_mask : Kind → ℕ
+gauge_mask Never = 0
+gauge_mask (Input x) = 0
+gauge_mask (Not a) = 0
+gauge_mask (And a b) = 0
+gauge_mask (Or a b) = 0
+gauge_mask (Exists a b c) = 0
+gauge_mask (Forall a b c) = 0
+gauge_mask (Gauge x) = 2 ^ x
 
-bit-range : (b c v : ℕ) → bit (rangeMask b c) v ≡ within b c v
+bit-range : (b c v : ℕ) → bit (range_mask b c) v ≡ within b c v
 unfolding within
-bit-range b c v = bit-rangeMask b c v
+bit-range b c v = bit-range_mask b c v
 
-pub bit-boundMask : (d : Kind) (v : ℕ) → bit (boundMask d) v ≡ binds d v
-unfolding boundMask binds
-bit-boundMask Never v = bit-none v
-bit-boundMask (Input x) v = bit-none v
-bit-boundMask (Not a) v = bit-none v
-bit-boundMask (And a b) v = bit-none v
-bit-boundMask (Or a b) v = bit-none v
-bit-boundMask (Exists a b c) v = bit-range b c v
-bit-boundMask (Forall a b c) v = bit-range b c v
-bit-boundMask (Gauge x) v = bit-none v
+pub bit-bound_mask : (d : Kind) (v : ℕ) → bit (bound_mask d) v ≡ binds d v
+unfolding bound_mask binds
+bit-bound_mask Never v = bit-none v
+bit-bound_mask (Input x) v = bit-none v
+bit-bound_mask (Not a) v = bit-none v
+bit-bound_mask (And a b) v = bit-none v
+bit-bound_mask (Or a b) v = bit-none v
+bit-bound_mask (Exists a b c) v = bit-range b c v
+bit-bound_mask (Forall a b c) v = bit-range b c v
+bit-bound_mask (Gauge x) v = bit-none v
 
-pub bit-inputMask : (d : Kind) (v : ℕ) → bit (inputMask d) v ≡ namesInput d v
-unfolding inputMask namesInput
-bit-inputMask Never v = bit-none v
-bit-inputMask (Input x) v = bit-pow x v
-bit-inputMask (Not a) v = bit-none v
-bit-inputMask (And a b) v = bit-none v
-bit-inputMask (Or a b) v = bit-none v
-bit-inputMask (Exists a b c) v = bit-none v
-bit-inputMask (Forall a b c) v = bit-none v
-bit-inputMask (Gauge x) v = bit-none v
+pub bit-input_mask : (d : Kind) (v : ℕ) → bit (input_mask d) v ≡ names_input d v
+unfolding input_mask names_input
+bit-input_mask Never v = bit-none v
+bit-input_mask (Input x) v = bit-pow x v
+bit-input_mask (Not a) v = bit-none v
+bit-input_mask (And a b) v = bit-none v
+bit-input_mask (Or a b) v = bit-none v
+bit-input_mask (Exists a b c) v = bit-none v
+bit-input_mask (Forall a b c) v = bit-none v
+bit-input_mask (Gauge x) v = bit-none v
 
-pub bit-gaugeMask : (d : Kind) (v : ℕ) → bit (gaugeMask d) v ≡ namesGauge d v
-unfolding gaugeMask namesGauge
-bit-gaugeMask Never v = bit-none v
-bit-gaugeMask (Input x) v = bit-none v
-bit-gaugeMask (Not a) v = bit-none v
-bit-gaugeMask (And a b) v = bit-none v
-bit-gaugeMask (Or a b) v = bit-none v
-bit-gaugeMask (Exists a b c) v = bit-none v
-bit-gaugeMask (Forall a b c) v = bit-none v
-bit-gaugeMask (Gauge x) v = bit-pow x v
+pub bit-gauge_mask : (d : Kind) (v : ℕ) → bit (gauge_mask d) v ≡ names_gauge d v
+unfolding gauge_mask names_gauge
+bit-gauge_mask Never v = bit-none v
+bit-gauge_mask (Input x) v = bit-none v
+bit-gauge_mask (Not a) v = bit-none v
+bit-gauge_mask (And a b) v = bit-none v
+bit-gauge_mask (Or a b) v = bit-none v
+bit-gauge_mask (Exists a b c) v = bit-none v
+bit-gauge_mask (Forall a b c) v = bit-none v
+bit-gauge_mask (Gauge x) v = bit-pow x v
 
 -- ---- what earlier frames did, as words
 
-abbrev pub pastBy : Seen → Past
-pastBy w = record { bound = bit w.bound; inputs = bit w.inputs; gauges = bit w.gauges }
+abbrev pub past_by : Seen → Past
+past_by w = record { bound = bit w.bound; inputs = bit w.inputs; gauges = bit w.gauges }
 
-abbrev pub noneSeen : Seen
-noneSeen = record { bound = 0; inputs = 0; gauges = 0 }
+abbrev pub none_seen : Seen
+none_seen = record { bound = 0; inputs = 0; gauges = 0 }
 
 -- behind a frame of kind d
-abbrev pub seenAfter : Seen → Kind → Seen
-seenAfter w d = record { bound = bit_or w.bound (boundMask d); inputs = bit_or w.inputs (inputMask d); gauges = bit_or w.gauges (gaugeMask d) }
+abbrev pub seen_after : Seen → Kind → Seen
+seen_after w d = record { bound = bit_or w.bound (bound_mask d); inputs = bit_or w.inputs (input_mask d); gauges = bit_or w.gauges (gauge_mask d) }
 
 -- ---- the free variables of a frame, from the words l of the frames before it
 
-unfoldable pub freeWord : List ℕ → Kind → ℕ
-freeWord l Never = 0
-freeWord l (Input x) = 2 ^ x
-freeWord l (Not a) = get_or l a 0
-freeWord l (And a b) = bit_or (get_or l a 0) (get_or l b 0)
-freeWord l (Or a b) = bit_or (get_or l a 0) (get_or l b 0)
-freeWord l (Exists a b c) = without (get_or l a 0) (rangeMask b c)
-freeWord l (Forall a b c) = without (get_or l a 0) (rangeMask b c)
-freeWord l (Gauge x) = 2 ^ x
+unfoldable pub free_word : List ℕ → Kind → ℕ
+free_word l Never = 0
+free_word l (Input x) = 2 ^ x
+free_word l (Not a) = get_or l a 0
+free_word l (And a b) = bit_or (get_or l a 0) (get_or l b 0)
+free_word l (Or a b) = bit_or (get_or l a 0) (get_or l b 0)
+free_word l (Exists a b c) = without (get_or l a 0) (range_mask b c)
+free_word l (Forall a b c) = without (get_or l a 0) (range_mask b c)
+free_word l (Gauge x) = 2 ^ x
 
 -- the first k words of l are the free variables of the formulas of g
 abbrev pub FreeBelow : ℕ → ℕ → List ℕ → (ℕ → Formula) → Type 0
-FreeBelow n k l g = (a : ℕ) → a < k → get_or l a 0 ≡ freeMask n (g a)
+FreeBelow n k l g = (a : ℕ) → a < k → get_or l a 0 ≡ free_mask n (g a)
 
-pub freeWord-is : (n k : ℕ) (l : List ℕ) (g : ℕ → Formula) (d : Kind) → FreeBelow n k l g → Fit n k d → freeWord l d ≡ freeMask n (build g d)
-unfolding freeWord build
-freeWord-is n k l g Never h w = sym (freeMask-never n)
-freeWord-is n k l g (Input x) h w = sym (freeMask-input n x w)
-freeWord-is n k l g (Not a) h w = h a w ∙ sym (freeMask-neg n (g a))
-freeWord-is n k l g (And a b) h w = ap₂ bit_or (h a w.0) (h b w.1) ∙ sym (freeMask-gate n false (g a) (g b))
-freeWord-is n k l g (Or a b) h w = ap₂ bit_or (h a w.0) (h b w.1) ∙ sym (freeMask-gate n true (g a) (g b))
-freeWord-is n k l g (Exists a b c) h w = ap (λ (x : ℕ). without x (rangeMask b c)) (h a w.0) ∙ sym (freeMask-quant n true b c (g a))
-freeWord-is n k l g (Forall a b c) h w = ap (λ (x : ℕ). without x (rangeMask b c)) (h a w.0) ∙ sym (freeMask-quant n false b c (g a))
-freeWord-is n k l g (Gauge x) h w = sym (freeMask-input n x w)
+pub freeWord-is : (n k : ℕ) (l : List ℕ) (g : ℕ → Formula) (d : Kind) → FreeBelow n k l g → Fit n k d → free_word l d ≡ free_mask n (build g d)
+unfolding free_word build
+freeWord-is n k l g Never h w = sym (free_mask-never n)
+freeWord-is n k l g (Input x) h w = sym (free_mask-input n x w)
+freeWord-is n k l g (Not a) h w = h a w ∙ sym (free_mask-neg n (g a))
+freeWord-is n k l g (And a b) h w = ap₂ bit_or (h a w.0) (h b w.1) ∙ sym (free_mask-gate n false (g a) (g b))
+freeWord-is n k l g (Or a b) h w = ap₂ bit_or (h a w.0) (h b w.1) ∙ sym (free_mask-gate n true (g a) (g b))
+freeWord-is n k l g (Exists a b c) h w = ap (λ (x : ℕ). without x (range_mask b c)) (h a w.0) ∙ sym (free_mask-quant n true b c (g a))
+freeWord-is n k l g (Forall a b c) h w = ap (λ (x : ℕ). without x (range_mask b c)) (h a w.0) ∙ sym (free_mask-quant n false b c (g a))
+freeWord-is n k l g (Gauge x) h w = sym (free_mask-input n x w)
 
 -- ---- two sets of variables have one in common exactly if their words do
 
@@ -199,8 +199,8 @@ pub meet-same : (F : Form) (p p' q q' : ℕ → Bool) → ((v : ℕ) → p v ≡
 meet-same F p p' q q' f g = ap₂ (meet F) (fun_ext f) (fun_ext g)
 
 -- the words of a kind whose variables are not bad are words of the form
-pub bound-lt : (F : Form) (d : Kind) → badVariables F d ≡ false → boundMask d < 2 ^ variables F
-unfolding boundMask badVariables
+pub bound-lt : (F : Form) (d : Kind) → bad_variables F d ≡ false → bound_mask d < 2 ^ variables F
+unfolding bound_mask bad_variables
 bound-lt F Never g = pow_pos (variables F)
 bound-lt F (Input x) g = pow_pos (variables F)
 bound-lt F (Not a) g = pow_pos (variables F)
@@ -210,8 +210,8 @@ bound-lt F (Exists a b c) g = range-lt (variables F) b c (range-fits F b c g).2
 bound-lt F (Forall a b c) g = range-lt (variables F) b c (range-fits F b c g).2
 bound-lt F (Gauge x) g = pow_pos (variables F)
 
-pub input-lt : (F : Form) (d : Kind) → badVariables F d ≡ false → inputMask d < 2 ^ variables F
-unfolding inputMask badVariables
+pub input-lt : (F : Form) (d : Kind) → bad_variables F d ≡ false → input_mask d < 2 ^ variables F
+unfolding input_mask bad_variables
 input-lt F Never g = pow_pos (variables F)
 input-lt F (Input x) g = pow-lt (omega (tests, g))
 input-lt F (Not a) g = pow_pos (variables F)
@@ -221,16 +221,16 @@ input-lt F (Exists a b c) g = pow_pos (variables F)
 input-lt F (Forall a b c) g = pow_pos (variables F)
 input-lt F (Gauge x) g = pow_pos (variables F)
 
-pub gauge-lt : (F : Form) (d : Kind) → badVariables F d ≡ false → gaugeMask d < 2 ^ variables F
-unfolding gaugeMask badVariables
-gauge-lt F Never g = pow_pos (variables F)
-gauge-lt F (Input x) g = pow_pos (variables F)
-gauge-lt F (Not a) g = pow_pos (variables F)
-gauge-lt F (And a b) g = pow_pos (variables F)
-gauge-lt F (Or a b) g = pow_pos (variables F)
-gauge-lt F (Exists a b c) g = pow_pos (variables F)
-gauge-lt F (Forall a b c) g = pow_pos (variables F)
-gauge-lt F (Gauge x) g = pow-lt (omega (tests, g))
+pub gauge_lt : (F : Form) (d : Kind) → bad_variables F d ≡ false → gauge_mask d < 2 ^ variables F
+unfolding gauge_mask bad_variables
+gauge_lt F Never g = pow_pos (variables F)
+gauge_lt F (Input x) g = pow_pos (variables F)
+gauge_lt F (Not a) g = pow_pos (variables F)
+gauge_lt F (And a b) g = pow_pos (variables F)
+gauge_lt F (Or a b) g = pow_pos (variables F)
+gauge_lt F (Exists a b c) g = pow_pos (variables F)
+gauge_lt F (Forall a b c) g = pow_pos (variables F)
+gauge_lt F (Gauge x) g = pow-lt (omega (tests, g))
 
 -- as a word m of the form, which the code has as r, and the word w of what earlier frames did
 meet-word : (F : Form) (p : ℕ → Bool) (m w r : ℕ) → ((v : ℕ) → bit m v ≡ p v) → m < 2 ^ variables F → r ≡ m → meet F p (bit w) ≡ not (eqb (bit_and r w) 0)
@@ -238,45 +238,45 @@ meet-word F p m w r b l e =
     meet-same F p (bit m) (bit w) (bit w) (λ v. sym (b v)) (λ v. refl)
     ∙ meet-bits F m w (lt_of_le_of_lt (and_le_l m w) l) ∙ ap (λ (x : ℕ). not (eqb (bit_and x w) 0)) (sym e)
 
-module _ (F : Form) (d : Kind) (w r : ℕ) (g : badVariables F d ≡ false) where
-  pub meet-bound : r ≡ boundMask d → meet F (binds d) (bit w) ≡ not (eqb (bit_and r w) 0)
-  meet-bound e = meet-word F (binds d) (boundMask d) w r (bit-boundMask d) (bound-lt F d g) e
+module _ (F : Form) (d : Kind) (w r : ℕ) (g : bad_variables F d ≡ false) where
+  pub meet-bound : r ≡ bound_mask d → meet F (binds d) (bit w) ≡ not (eqb (bit_and r w) 0)
+  meet-bound e = meet-word F (binds d) (bound_mask d) w r (bit-bound_mask d) (bound-lt F d g) e
 
-  pub meet-input : r ≡ inputMask d → meet F (namesInput d) (bit w) ≡ not (eqb (bit_and r w) 0)
-  meet-input e = meet-word F (namesInput d) (inputMask d) w r (bit-inputMask d) (input-lt F d g) e
+  pub meet-input : r ≡ input_mask d → meet F (names_input d) (bit w) ≡ not (eqb (bit_and r w) 0)
+  meet-input e = meet-word F (names_input d) (input_mask d) w r (bit-input_mask d) (input-lt F d g) e
 
-  pub meet-gauge : r ≡ gaugeMask d → meet F (namesGauge d) (bit w) ≡ not (eqb (bit_and r w) 0)
-  meet-gauge e = meet-word F (namesGauge d) (gaugeMask d) w r (bit-gaugeMask d) (gauge-lt F d g) e
+  pub meet_gauge : r ≡ gauge_mask d → meet F (names_gauge d) (bit w) ≡ not (eqb (bit_and r w) 0)
+  meet_gauge e = meet-word F (names_gauge d) (gauge_mask d) w r (bit-gauge_mask d) (gauge_lt F d g) e
 
 -- the second of two tests decides where the first finds nothing
-module _ (F : Form) (d : Kind) (w : Seen) (g : badVariables F d ≡ false) where
-  pub named-second : (i x : ℕ) → i ≡ inputMask d → x ≡ gaugeMask d → bit_and i w.gauges ≡ 0 → not (eqb (bit_and x w.inputs) 0) ≡ namedBoth F d (pastBy w)
-  unfolding namedBoth
-  named-second i x e h z = rw (meet-input F d w.gauges i g e, meet-gauge F d w.inputs x g h, eq-eqb _ _ z)
+module _ (F : Form) (d : Kind) (w : Seen) (g : bad_variables F d ≡ false) where
+  pub named_second : (i x : ℕ) → i ≡ input_mask d → x ≡ gauge_mask d → bit_and i w.gauges ≡ 0 → not (eqb (bit_and x w.inputs) 0) ≡ named_both F d (past_by w)
+  unfolding named_both
+  named_second i x e h z = rw (meet-input F d w.gauges i g e, meet_gauge F d w.inputs x g h, eq-eqb _ _ z)
 
-  pub binds-second : (b x : ℕ) → b ≡ boundMask d → x ≡ gaugeMask d → bit_and b w.gauges ≡ 0 → not (eqb (bit_and x w.bound) 0) ≡ bindsGauge F d (pastBy w)
-  unfolding bindsGauge
-  binds-second b x e h z = rw (meet-bound F d w.gauges b g e, meet-gauge F d w.bound x g h, eq-eqb _ _ z)
+  pub binds_second : (b x : ℕ) → b ≡ bound_mask d → x ≡ gauge_mask d → bit_and b w.gauges ≡ 0 → not (eqb (bit_and x w.bound) 0) ≡ binds_gauge F d (past_by w)
+  unfolding binds_gauge
+  binds_second b x e h z = rw (meet-bound F d w.gauges b g e, meet_gauge F d w.bound x g h, eq-eqb _ _ z)
 
 -- ---- the last four causes of a frame, as a number
 
-unfoldable pub variablesFault : Form → Kind → Past → ℕ
-variablesFault F d p =
-    cond (badVariables F d) Number.rangeBroken
-    (cond (namedBoth F d p) Number.inputAndGauge
-    (cond (bindsGauge F d p) Number.gaugeBound
-    (cond (meet F (binds d) p.bound) Number.boundTwice 0)))
+unfoldable pub variables_fault : Form → Kind → Past → ℕ
+variables_fault F d p =
+    cond (bad_variables F d) Number.range_broken
+    (cond (named_both F d p) Number.input_and_gauge
+    (cond (binds_gauge F d p) Number.gauge_bound
+    (cond (meet F (binds d) p.bound) Number.bound_twice 0)))
 
 pub first-variables : (F : Form) (d : Kind) (k : ℕ) (p : Past)
     → (first (
-    cause (badVariables F d) Number.rangeBroken k
-    ∷ (cause (namedBoth F d p) Number.inputAndGauge k
-    ∷ (cause (bindsGauge F d p) Number.gaugeBound k
-    ∷ (cause (meet F (binds d) p.bound) Number.boundTwice k ∷ [])))
-    )).number ≡ variablesFault F d p
-unfolding first variablesFault
+    cause (bad_variables F d) Number.range_broken k
+    ∷ (cause (named_both F d p) Number.input_and_gauge k
+    ∷ (cause (binds_gauge F d p) Number.gauge_bound k
+    ∷ (cause (meet F (binds d) p.bound) Number.bound_twice k ∷ [])))
+    )).number ≡ variables_fault F d p
+unfolding first variables_fault
 first-variables F d k p =
-    by_bool (badVariables F d) (λ e. rw e) (λ e. rw e
-    (by_bool (namedBoth F d p) (λ h. rw h) (λ h. rw h
-    (by_bool (bindsGauge F d p) (λ i. rw i) (λ i. rw i
+    by_bool (bad_variables F d) (λ e. rw e) (λ e. rw e
+    (by_bool (named_both F d p) (λ h. rw h) (λ h. rw h
+    (by_bool (binds_gauge F d p) (λ i. rw i) (λ i. rw i
     (by_bool (meet F (binds d) p.bound) (λ j. rw j) (λ j. rw j)))))))

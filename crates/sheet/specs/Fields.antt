@@ -13,22 +13,22 @@ pub record Sheet : Type 0 where
   pub form : Form
   pub bytes : List ℕ
 
-abbrev pub sheetOf : Form → List ℕ → Sheet
-sheetOf F b = record { form = F; bytes = b }
+abbrev pub sheet_of : Form → List ℕ → Sheet
+sheet_of F b = record { form = F; bytes = b }
 
 abbrev pub narrow : List ℕ → Sheet
-narrow b = sheetOf Narrow b
+narrow b = sheet_of Narrow b
 
 abbrev pub wide : List ℕ → Sheet
-wide b = sheetOf Wide b
+wide b = sheet_of Wide b
 
 -- how many whole frames the bytes hold
 abbrev pub frames : Sheet → ℕ
 frames s = Sizes.frames s.form (length s.bytes)
 
 -- how many a sheet of the form may have
-abbrev pub mostFrames : Sheet → ℕ
-mostFrames s = Sizes.mostFrames s.form
+abbrev pub most_frames : Sheet → ℕ
+most_frames s = Sizes.most_frames s.form
 
 -- variables are the numbers below: 0 to 31, or 0 to 63
 abbrev pub variables : Sheet → ℕ
@@ -44,12 +44,12 @@ laid Wide s k = record {
   c = get_or s (k * 7 + 5) 0 * 256 + get_or s (k * 7 + 6) 0;
 }
 
-abbrev pub noFields : Fields
-noFields = record { k = 0; a = 0; b = 0; c = 0 }
+abbrev pub no_fields : Fields
+no_fields = record { k = 0; a = 0; b = 0; c = 0 }
 
 -- the fields of frame k; past the end all 0
 unfoldable pub fields_at : Sheet → ℕ → Fields
-fields_at s k = cond (ltb k (frames s)) (laid s.form s.bytes k) noFields
+fields_at s k = cond (ltb k (frames s)) (laid s.form s.bytes k) no_fields
 
 -- the kind that a frame's fields say; a code above 7, which no accepted sheet has, gives Never
 unfoldable pub kind_of : Fields → Kind
@@ -70,7 +70,7 @@ pub fields-at : (s : Sheet) (k : ℕ) → k < frames s → fields_at s k ≡ lai
 unfolding fields_at
 fields-at s k h = rw (lt-ltb k (frames s) h)
 
-pub fields-past : (s : Sheet) (k : ℕ) → frames s ≤ k → fields_at s k ≡ noFields
+pub fields-past : (s : Sheet) (k : ℕ) → frames s ≤ k → fields_at s k ≡ no_fields
 unfolding fields_at
 fields-past s k h = rw (le-ltb k (frames s) h)
 

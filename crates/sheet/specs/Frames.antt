@@ -23,11 +23,11 @@ tree zero κ k = never
 tree (suc n) κ k = build (tree n κ) (κ k)
 
 -- the formula of frame k, where each frame names only earlier ones
-unfoldable pub formulaOf : (ℕ → Kind) → ℕ → Formula
-formulaOf κ k = tree (suc k) κ k
+unfoldable pub formula_of : (ℕ → Kind) → ℕ → Formula
+formula_of κ k = tree (suc k) κ k
 
 abbrev pub formula : Sheet → ℕ → Formula
-formula s k = formulaOf (kind s) k
+formula s k = formula_of (kind s) k
 
 -- the frames that a kind names stand before k, and its variables are below n
 abbrev pub Fit : ℕ → ℕ → Kind → Type 0
@@ -79,20 +79,20 @@ build-same n g h k (Gauge x) w e = refl
 abbrev pub OrderedBelow : ℕ → ℕ → (ℕ → Kind) → Type 0
 OrderedBelow m n κ = (k : ℕ) → k < m → Fit n k (κ k)
 
-depth-free : (w l : ℕ) (κ : ℕ → Kind) → OrderedBelow l w κ → (n m k : ℕ) → k < l → k < n → k < m → tree n κ k ≡ tree m κ k
+depth_free : (w l : ℕ) (κ : ℕ → Kind) → OrderedBelow l w κ → (n m k : ℕ) → k < l → k < n → k < m → tree n κ k ≡ tree m κ k
 unfolding tree
-depth-free w l κ o zero m k h i j = absurd (omega arith)
-depth-free w l κ o (suc n) zero k h i j = absurd (omega arith)
-depth-free w l κ o (suc n) (suc m) k h i j =
-    build-same w (tree n κ) (tree m κ) k (κ k) (o k h) (λ a e. depth-free w l κ o n m a (omega arith) (omega arith) (omega arith))
+depth_free w l κ o zero m k h i j = absurd (omega arith)
+depth_free w l κ o (suc n) zero k h i j = absurd (omega arith)
+depth_free w l κ o (suc n) (suc m) k h i j =
+    build-same w (tree n κ) (tree m κ) k (κ k) (o k h) (λ a e. depth_free w l κ o n m a (omega arith) (omega arith) (omega arith))
 
 -- the formula of a frame is built of those of the frames that it names
-pub formula-below : (w l : ℕ) (κ : ℕ → Kind) → OrderedBelow l w κ → (k : ℕ) → k < l → formulaOf κ k ≡ build (formulaOf κ) (κ k)
-unfolding formulaOf tree
+pub formula-below : (w l : ℕ) (κ : ℕ → Kind) → OrderedBelow l w κ → (k : ℕ) → k < l → formula_of κ k ≡ build (formula_of κ) (κ k)
+unfolding formula_of tree
 formula-below w l κ o k h =
-    build-same w (tree k κ) (formulaOf κ) k (κ k) (o k h) (λ a i. depth-free w l κ o k (suc a) a (omega arith) i (omega arith))
+    build-same w (tree k κ) (formula_of κ) k (κ k) (o k h) (λ a i. depth_free w l κ o k (suc a) a (omega arith) i (omega arith))
 
-pub formula-is : (w : ℕ) (κ : ℕ → Kind) → Ordered w κ → (k : ℕ) → formulaOf κ k ≡ build (formulaOf κ) (κ k)
+pub formula-is : (w : ℕ) (κ : ℕ → Kind) → Ordered w κ → (k : ℕ) → formula_of κ k ≡ build (formula_of κ) (κ k)
 formula-is w κ o k = formula-below w (suc k) κ (λ j h. o.fit j) k (omega arith)
 
 pub kind-past : (s : Sheet) (k : ℕ) → frames s ≤ k → kind s k ≡ Never

@@ -4,7 +4,7 @@ use Rattle.std.specs.Prelude.{ℕ, ◌+◌, ◌≤◌, ◌<◌, ◌≡◌, true,
 use mathlib.Core.List.{Memᴰ}
 use Rattle.form.specs.Form as Sizes
 use Rattle.formula.specs.Formula.{free}
-use Rattle.sheet.specs.Fields.{Sheet, frames, mostFrames, variables, fields_at, kind}
+use Rattle.sheet.specs.Fields.{Sheet, frames, most_frames, variables, fields_at, kind}
 use Rattle.sheet.specs.Frames.{formula}
 use Rattle.sheet.specs.Rules.{last, used, names, binds}
 use Rattle.sheet.specs.declared.Kind.{Kind}
@@ -20,15 +20,15 @@ Reads d x = (d ≡ Input x) ⊎ (d ≡ Gauge x)
 
 pub record Keeps (s : Sheet) : Type 0 where
   -- a sheet is 1 to 200 frames of four bytes, or, wide, 1 to 3,000 of seven
-  pub whole : Sizes.frameStart s.form (frames s) ≡ length s.bytes
+  pub whole : Sizes.frame_start s.form (frames s) ≡ length s.bytes
   pub least : 1 ≤ frames s
-  pub most : frames s ≤ mostFrames s
+  pub most : frames s ≤ most_frames s
   -- the kinds are 00 to 07
   pub known : (k : ℕ) → k < frames s → (fields_at s k).k ≤ 7
   -- spare fields are 0: those of A B C that the kind does not use
-  pub spare-a : (k : ℕ) → k < frames s → used (kind s k) < 1 → (fields_at s k).a ≡ 0
-  pub spare-b : (k : ℕ) → k < frames s → used (kind s k) < 2 → (fields_at s k).b ≡ 0
-  pub spare-c : (k : ℕ) → k < frames s → used (kind s k) < 3 → (fields_at s k).c ≡ 0
+  pub spare_a : (k : ℕ) → k < frames s → used (kind s k) < 1 → (fields_at s k).a ≡ 0
+  pub spare_b : (k : ℕ) → k < frames s → used (kind s k) < 2 → (fields_at s k).b ≡ 0
+  pub spare_c : (k : ℕ) → k < frames s → used (kind s k) < 3 → (fields_at s k).c ≡ 0
   -- a named frame has a smaller number than the frame that names it
   pub earlier : (k a : ℕ) → k < frames s → Memᴰ a (names (kind s k)) → a < k
   -- variables are 0 to 31, or, wide, 0 to 63

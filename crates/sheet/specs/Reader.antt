@@ -3,7 +3,7 @@ use Rattle.std.specs.Prelude.{ℕ, ◌+◌, ◌≤◌, ◌<◌, ◌≡◌, cond,
 use Rattle.std.proofs.Common.{subst, lt-ltb, le-ltb}
 use Rattle.form.specs.Form.{form_of}
 use Rattle.form.specs.declared.Form.{Form}
-use Rattle.sheet.specs.Fields.{Sheet, sheetOf, frames, kind}
+use Rattle.sheet.specs.Fields.{Sheet, sheet_of, frames, kind}
 use Rattle.sheet.specs.declared.Frame.{Frame}
 use Rattle.sheet.specs.declared.reader.Reader.{Reader}
 
@@ -11,9 +11,9 @@ use Rattle.sheet.specs.declared.reader.Reader.{Reader}
 unfoldable pub following : Sheet → ℕ → ℕ
 following s k = cond (ltb k (frames s)) (k + 1) k
 
-pub following-in : (s : Sheet) (k : ℕ) → k < frames s → following s k ≡ k + 1
+pub following_in : (s : Sheet) (k : ℕ) → k < frames s → following s k ≡ k + 1
 unfolding following
-following-in s k h = rw (lt-ltb k (frames s) h)
+following_in s k h = rw (lt-ltb k (frames s) h)
 
 pub following-past : (s : Sheet) (k : ℕ) → frames s ≤ k → following s k ≡ k
 unfolding following
@@ -26,12 +26,12 @@ pub record Takes (s : Sheet) (k : ℕ) (frame : Frame) (next : ℕ) : Type 0 whe
   pub next-is : next ≡ following s k
 
 -- the same, as code has it that works out the form first
-pub takes_of : {F G : Form} (b : List ℕ) (k : ℕ) (frame : Frame) (next : ℕ) → F ≡ G → Takes (sheetOf F b) k frame next → Takes (sheetOf G b) k frame next
-takes_of b k frame next e t = subst (λ (F : Form). Takes (sheetOf F b) k frame next) e t
+pub takes_of : {F G : Form} (b : List ℕ) (k : ℕ) (frame : Frame) (next : ℕ) → F ≡ G → Takes (sheet_of F b) k frame next → Takes (sheet_of G b) k frame next
+takes_of b k frame next e t = subst (λ (F : Form). Takes (sheet_of F b) k frame next) e t
 
 -- the sheet that a reader reads
 abbrev pub read_by : Reader → Sheet
-read_by r = sheetOf (form_of r.wide) r.bytes.now
+read_by r = sheet_of (form_of r.wide) r.bytes.now
 
 -- the reader after it took a frame
 abbrev pub after : Reader → Reader

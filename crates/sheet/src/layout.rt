@@ -1,7 +1,7 @@
 // The fields of a frame: the only place that knows its bytes.
 ghost use Rattle.std.specs.Prelude.{◌≡◌, ◌+◌, ◌*◌};
 ghost use Rattle.sheet.specs.Fields as Sheets;
-ghost use Rattle.sheet.specs.Fields.{sheetOf, fields_at};
+ghost use Rattle.sheet.specs.Fields.{sheet_of, fields_at};
 
 use crate::Fields;
 use form::Form;
@@ -22,7 +22,7 @@ fn pair(high: u8, low: u8) -> u16
 
 // Past the last whole frame.
 fn none() -> Fields
-    ensures { result ≡ Sheets.noFields }
+    ensures { result ≡ Sheets.no_fields }
 {
     Fields {
         k: 0,
@@ -34,7 +34,7 @@ fn none() -> Fields
 
 // Of a frame of four bytes.
 fn narrow_at(bytes: &[u8], number: usize) -> Fields
-    ensures { result ≡ fields_at (sheetOf Form.Narrow bytes.now) number }
+    ensures { result ≡ fields_at (sheet_of Form.Narrow bytes.now) number }
 {
     if number < bytes.len() / 4 {
         let at = number * 4;
@@ -50,7 +50,7 @@ fn narrow_at(bytes: &[u8], number: usize) -> Fields
 
 // Of a frame of seven bytes.
 fn wide_at(bytes: &[u8], number: usize) -> Fields
-    ensures { result ≡ fields_at (sheetOf Form.Wide bytes.now) number }
+    ensures { result ≡ fields_at (sheet_of Form.Wide bytes.now) number }
 {
     if number < bytes.len() / 7 {
         let at = number * 7;
@@ -66,7 +66,7 @@ fn wide_at(bytes: &[u8], number: usize) -> Fields
 
 // The fields of the frame of that number; past the last whole frame all are 0.
 pub fn fields_at(bytes: &[u8], form: Form, number: usize) -> Fields
-    ensures { result ≡ fields_at (sheetOf form bytes.now) number }
+    ensures { result ≡ fields_at (sheet_of form bytes.now) number }
 {
     match form {
         Form::Narrow => narrow_at(bytes, number),

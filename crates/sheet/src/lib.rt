@@ -6,7 +6,7 @@ mod rules;
 mod scan;
 
 ghost use Rattle.std.specs.Prelude.{◌≡◌};
-ghost use Rattle.sheet.specs.Fields.{sheetOf, kind_of, kind};
+ghost use Rattle.sheet.specs.Fields.{sheet_of, kind_of, kind};
 
 use form::Form;
 use layout::fields_at;
@@ -64,7 +64,7 @@ fn kind_of(f: Fields) -> Kind
 
 // The frame of that number; past the last whole frame it is `Never`.
 pub fn decode(bytes: &[u8], form: Form, number: usize) -> Frame
-    ensures { (result.number ≡ number) × (result.kind ≡ kind (sheetOf form bytes.now) number) }
+    ensures { (result.number ≡ number) × (result.kind ≡ kind (sheet_of form bytes.now) number) }
 {
     let f = fields_at(bytes, form, number);
     Frame {

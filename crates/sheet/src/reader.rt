@@ -1,7 +1,7 @@
 // A reader that borrows a sheet's bytes and gives one frame at a time; thin over `decode`.
 ghost use Rattle.std.specs.Prelude.{◌≡◌};
 ghost use Rattle.form.specs.Form.{form_of};
-ghost use Rattle.sheet.specs.Fields.{sheetOf, kind};
+ghost use Rattle.sheet.specs.Fields.{sheet_of, kind};
 ghost use Rattle.sheet.specs.Reader.{Takes, read_by, after};
 
 use crate::{Frame, decode};
@@ -24,7 +24,7 @@ struct Taken {
 
 // The frame of that number and the number after it, which past the last whole frame is the same.
 fn take_at(bytes: &[u8], number: usize, wide: bool) -> Taken
-    ensures { Takes (sheetOf (form_of wide) bytes.now) number result.frame result.next }
+    ensures { Takes (sheet_of (form_of wide) bytes.now) number result.frame result.next }
 {
     let form = form::of(wide);
     let frame = decode(bytes, form, number);

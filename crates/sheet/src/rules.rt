@@ -1,12 +1,12 @@
 // Document 01's causes to refuse a sheet, and document 02's for gauges, each as a test of its length or of one frame.
 ghost use Rattle.std.specs.Prelude.{◌≡◌, false, ◌+◌, ◌^◌, ◌<◌, ◌≤◌};
-ghost use Rattle.words.specs.Mask.{rangeMask};
+ghost use Rattle.words.specs.Mask.{range_mask};
 ghost use Rattle.form.specs.Form as Sizes;
 ghost use Rattle.sheet.specs.Cause.{first};
-ghost use Rattle.sheet.specs.Fields.{sheetOf};
+ghost use Rattle.sheet.specs.Fields.{sheet_of};
 ghost use Rattle.sheet.specs.Rules as Rules;
-ghost use Rattle.sheet.specs.Rules.{lengthCauses, fieldCauses, causesOf, someLate, names};
-ghost use Rattle.sheet.specs.Check.{boundMask, inputMask, gaugeMask, pastBy, seenAfter, variablesFault};
+ghost use Rattle.sheet.specs.Rules.{length_causes, field_causes, causes_of, some_late, names};
+ghost use Rattle.sheet.specs.Check.{bound_mask, input_mask, gauge_mask, past_by, seen_after, variables_fault};
 
 use crate::layout::fields_at;
 use crate::{Fields, Kind, kind_of, refusal};
@@ -15,7 +15,7 @@ use words::w64;
 
 // The cause that the length of a sheet gives, or 0.
 pub fn size_fault(form: Form, len: usize) -> u8
-    ensures { result ≡ (first (lengthCauses form len)).number }
+    ensures { result ≡ (first (length_causes form len)).number }
 {
     let behind = form::rest(form, len);
     let count = form::frames(form, len);
@@ -50,14 +50,14 @@ fn used(kind: Kind) -> u8
 
 // Whether the field at a place of A B C is behind the first n, and not 0.
 fn spare_at(n: u8, place: u8, field: u16) -> bool
-    ensures { result ≡ Rules.spareAt n place field }
+    ensures { result ≡ Rules.spare_at n place field }
 {
     if n <= place { field != 0 } else { false }
 }
 
 // Whether one of the fields behind the first n is not 0.
 pub fn spare_set(n: u8, a: u16, b: u16, c: u16) -> bool
-    ensures { result ≡ Rules.spareSet n a b c }
+    ensures { result ≡ Rules.spare_set n a b c }
 {
     if spare_at(n, 0, a) {
         return true;
@@ -70,7 +70,7 @@ pub fn spare_set(n: u8, a: u16, b: u16, c: u16) -> bool
 
 // Whether a frame of that number names one that is not earlier.
 fn some_late(kind: Kind, number: u16) -> bool
-    ensures { result ≡ someLate number (names kind) }
+    ensures { result ≡ some_late number (names kind) }
 {
     match kind {
         Kind::Never => false,
@@ -98,7 +98,7 @@ fn bound_of(form: Form) -> u32
 }
 
 fn bad_range(form: Form, b: u16, c: u16) -> bool
-    ensures { result ≡ Rules.badRange form b c }
+    ensures { result ≡ Rules.bad_range form b c }
 {
     let bound = bound_of(form);
     let count = long(c);
@@ -113,13 +113,13 @@ fn bad_range(form: Form, b: u16, c: u16) -> bool
 }
 
 fn bad_input(form: Form, x: u16) -> bool
-    ensures { result ≡ Rules.badInput form x }
+    ensures { result ≡ Rules.bad_input form x }
 {
     long(x) >= bound_of(form)
 }
 
 fn bad_variables(form: Form, kind: Kind) -> bool
-    ensures { result ≡ Rules.badVariables form kind }
+    ensures { result ≡ Rules.bad_variables form kind }
 {
     match kind {
         Kind::Never => false,
@@ -136,7 +136,7 @@ fn bad_variables(form: Form, kind: Kind) -> bool
 // The c places from b on.
 pub fn range_word(b: u16, c: u16) -> u64
     requires { b + c ≤ 64 }
-    ensures { result ≡ rangeMask b c }
+    ensures { result ≡ range_mask b c }
 {
     w64::range_mask(b as u8, c as u8)
 }
@@ -151,8 +151,8 @@ pub fn input_word(x: u16) -> u64
 
 // The variables that a frame of this kind binds.
 fn bound_word(form: Form, kind: Kind) -> u64
-    requires { Rules.badVariables form kind ≡ false }
-    ensures { result ≡ boundMask kind }
+    requires { Rules.bad_variables form kind ≡ false }
+    ensures { result ≡ bound_mask kind }
 {
     match kind {
         Kind::Never => 0,
@@ -168,8 +168,8 @@ fn bound_word(form: Form, kind: Kind) -> u64
 
 // Those that it names by an INPUT.
 fn named_input(form: Form, kind: Kind) -> u64
-    requires { Rules.badVariables form kind ≡ false }
-    ensures { result ≡ inputMask kind }
+    requires { Rules.bad_variables form kind ≡ false }
+    ensures { result ≡ input_mask kind }
 {
     match kind {
         Kind::Never => 0,
@@ -185,8 +185,8 @@ fn named_input(form: Form, kind: Kind) -> u64
 
 // Those that it names as gauges.
 fn named_gauge(form: Form, kind: Kind) -> u64
-    requires { Rules.badVariables form kind ≡ false }
-    ensures { result ≡ gaugeMask kind }
+    requires { Rules.bad_variables form kind ≡ false }
+    ensures { result ≡ gauge_mask kind }
 {
     match kind {
         Kind::Never => 0,
@@ -210,8 +210,8 @@ pub struct Seen {
 
 // The same behind a frame of this kind.
 pub fn seen_after(form: Form, kind: Kind, seen: Seen) -> Seen
-    requires { Rules.badVariables form kind ≡ false }
-    ensures { result ≡ seenAfter seen kind }
+    requires { Rules.bad_variables form kind ≡ false }
+    ensures { result ≡ seen_after seen kind }
 {
     Seen {
         bound: seen.bound | bound_word(form, kind),
@@ -222,8 +222,8 @@ pub fn seen_after(form: Form, kind: Kind, seen: Seen) -> Seen
 
 // Whether a frame names by an INPUT what was named as a gauge, or the other way round.
 fn named_both(form: Form, kind: Kind, seen: Seen) -> bool
-    requires { Rules.badVariables form kind ≡ false }
-    ensures { result ≡ Rules.namedBoth form kind (pastBy seen) }
+    requires { Rules.bad_variables form kind ≡ false }
+    ensures { result ≡ Rules.named_both form kind (past_by seen) }
 {
     if named_input(form, kind) & seen.gauges != 0 {
         return true;
@@ -233,8 +233,8 @@ fn named_both(form: Form, kind: Kind, seen: Seen) -> bool
 
 // Whether it binds what was named as a gauge, or the other way round.
 fn binds_gauge(form: Form, kind: Kind, seen: Seen) -> bool
-    requires { Rules.badVariables form kind ≡ false }
-    ensures { result ≡ Rules.bindsGauge form kind (pastBy seen) }
+    requires { Rules.bad_variables form kind ≡ false }
+    ensures { result ≡ Rules.binds_gauge form kind (past_by seen) }
 {
     if bound_word(form, kind) & seen.gauges != 0 {
         return true;
@@ -244,15 +244,15 @@ fn binds_gauge(form: Form, kind: Kind, seen: Seen) -> bool
 
 // Whether it binds what was bound.
 fn binds_again(form: Form, kind: Kind, seen: Seen) -> bool
-    requires { Rules.badVariables form kind ≡ false }
-    ensures { result ≡ Rules.meet form (Rules.binds kind) (pastBy seen).bound }
+    requires { Rules.bad_variables form kind ≡ false }
+    ensures { result ≡ Rules.meet form (Rules.binds kind) (past_by seen).bound }
 {
     bound_word(form, kind) & seen.bound != 0
 }
 
 // The first of the causes 9, 22, 23 and 10 that holds at a frame, in this order, or 0.
 fn variables_fault(form: Form, kind: Kind, seen: Seen) -> u8
-    ensures { result ≡ variablesFault form kind (pastBy seen) }
+    ensures { result ≡ variables_fault form kind (past_by seen) }
 {
     if bad_variables(form, kind) {
         return refusal::RANGE_BROKEN;
@@ -274,7 +274,7 @@ fn variables_fault(form: Form, kind: Kind, seen: Seen) -> u8
 
 // The first cause by the frame's fields, or 0: 6 to 8 before those of its variables.
 fn frame_fault(form: Form, f: Fields, number: u16, seen: Seen) -> u8
-    ensures { result ≡ (first (fieldCauses form f number (pastBy seen))).number }
+    ensures { result ≡ (first (field_causes form f number (past_by seen))).number }
 {
     if f.k > 7 {
         return refusal::KIND_UNKNOWN;
@@ -294,7 +294,7 @@ fn frame_fault(form: Form, f: Fields, number: u16, seen: Seen) -> u8
 // The same for the frame of that number.
 pub fn fault_at(sheet: &[u8], form: Form, number: usize, seen: Seen) -> u8
     requires { number < 3000 }
-    ensures { result ≡ (first (causesOf (sheetOf form sheet.now) number (pastBy seen))).number }
+    ensures { result ≡ (first (causes_of (sheet_of form sheet.now) number (past_by seen))).number }
 {
     let f = fields_at(sheet, form, number);
     let place = number as u16;

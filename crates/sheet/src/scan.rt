@@ -2,12 +2,12 @@
 ghost use Rattle.std.specs.Prelude.{◌≡◌, false, ◌+◌, ◌^◌, ◌<◌, ◌≤◌, length, get_or, set};
 ghost use Rattle.form.specs.Form as Sizes;
 ghost use Rattle.form.specs.Form.{form_of};
-ghost use Rattle.sheet.specs.Cause.{someHolds};
-ghost use Rattle.sheet.specs.Fields.{sheetOf, frames, kind};
+ghost use Rattle.sheet.specs.Cause.{some_holds};
+ghost use Rattle.sheet.specs.Fields.{sheet_of, frames, kind};
 ghost use Rattle.sheet.specs.Frames.{Fit};
 ghost use Rattle.sheet.specs.Rules as Rules;
-ghost use Rattle.sheet.specs.Rules.{sizeCauses, frameCauses, sheetCauses};
-ghost use Rattle.sheet.specs.Check.{freeWord, seenAfter, Checks};
+ghost use Rattle.sheet.specs.Rules.{size_causes, frame_causes, sheet_causes};
+ghost use Rattle.sheet.specs.Check.{free_word, seen_after, Checks};
 ghost use Rattle.sheet.specs.Pass.{Passed, RootChecks, Scanning, Scanned};
 
 use crate::rules::{Seen, fault_at, input_word, range_word, seen_after, size_fault};
@@ -36,7 +36,7 @@ fn word_at(free: &[u64], number: u16) -> u64
 // The free variables of a frame of this kind, from those of the frames before it.
 fn free_word(kind: Kind, free: &[u64]) -> u64
     requires { Fit 64 (length free.now) kind }
-    ensures { result ≡ freeWord free.now kind }
+    ensures { result ≡ free_word free.now kind }
 {
     match kind {
         Kind::Never => 0,
@@ -52,8 +52,8 @@ fn free_word(kind: Kind, free: &[u64]) -> u64
 
 // A frame at which no cause holds: its free variables go into the table, and what is seen so far is given back.
 fn pass(frame: Frame, form: Form, words: &mut [u64], seen: Seen) -> Seen
-    requires { (frame.number < length words.old) × Fit 64 (length words.old) frame.kind × (Rules.badVariables form frame.kind ≡ false) }
-    ensures { (words.new ≡ set words.old frame.number (freeWord words.old frame.kind)) × (result ≡ seenAfter seen frame.kind) }
+    requires { (frame.number < length words.old) × Fit 64 (length words.old) frame.kind × (Rules.bad_variables form frame.kind ≡ false) }
+    ensures { (words.new ≡ set words.old frame.number (free_word words.old frame.kind)) × (result ≡ seen_after seen frame.kind) }
 {
     let k = frame.number;
     let kind = frame.kind;
@@ -75,8 +75,8 @@ struct Scan {
 
 // One turn of the pass, over the frame that the reader gave: it is refused, or its words are kept.
 fn visit(sheet: &[u8], words: &mut [u64], scan: Scan, frame: Frame) -> Scan
-    requires { Passed (sheetOf (form_of scan.wide) sheet.now) words.old scan.seen frame.number × (frame.number < frames (sheetOf (form_of scan.wide) sheet.now)) × (frame.kind ≡ kind (sheetOf (form_of scan.wide) sheet.now) frame.number) }
-    ensures { Scanning (sheetOf (form_of scan.wide) sheet.now) words.new (frame.number + 1) result.more result.seen result.fault result.place × (result.wide ≡ scan.wide) }
+    requires { Passed (sheet_of (form_of scan.wide) sheet.now) words.old scan.seen frame.number × (frame.number < frames (sheet_of (form_of scan.wide) sheet.now)) × (frame.kind ≡ kind (sheet_of (form_of scan.wide) sheet.now) frame.number) }
+    ensures { Scanning (sheet_of (form_of scan.wide) sheet.now) words.new (frame.number + 1) result.more result.seen result.fault result.place × (result.wide ≡ scan.wide) }
 {
     let form = form::of(scan.wide);
     let seen = scan.seen;
@@ -103,8 +103,8 @@ fn visit(sheet: &[u8], words: &mut [u64], scan: Scan, frame: Frame) -> Scan
 
 // The pass from frame 0 on: one reader is stepped along the sheet.
 fn scan_frames(sheet: &[u8], words: &mut [u64], mut scan: Scan) -> Scan
-    requires { Scanning (sheetOf (form_of scan.wide) sheet.now) words.old 0 scan.more scan.seen scan.fault scan.place }
-    ensures { Scanned (sheetOf (form_of scan.wide) sheet.now) words.new result.seen result.fault result.place }
+    requires { Scanning (sheet_of (form_of scan.wide) sheet.now) words.old 0 scan.more scan.seen scan.fault scan.place }
+    ensures { Scanned (sheet_of (form_of scan.wide) sheet.now) words.new result.seen result.fault result.place }
 {
     let mut reader = reader::new(sheet, 0, scan.wide);
     while scan.more {
@@ -144,8 +144,8 @@ fn root_answer(form: Form, word: u64, seen: Seen, place: u16) -> Checked
 
 // The frames of a sheet of a right size, in one pass; `words` has room for the free variables of each.
 fn scan_with(sheet: &[u8], wide: bool, words: &mut [u64]) -> Checked
-    requires { (someHolds (sizeCauses (sheetOf (form_of wide) sheet.now)) ≡ false) × (Sizes.mostFrames (form_of wide) ≤ length words.old) }
-    ensures { Checks (frameCauses (sheetOf (form_of wide) sheet.now)) (sheetOf (form_of wide) sheet.now) result.number result.place result.free result.gauges }
+    requires { (some_holds (size_causes (sheet_of (form_of wide) sheet.now)) ≡ false) × (Sizes.most_frames (form_of wide) ≤ length words.old) }
+    ensures { Checks (frame_causes (sheet_of (form_of wide) sheet.now)) (sheet_of (form_of wide) sheet.now) result.number result.place result.free result.gauges }
 {
     let none = Seen {
         bound: 0,
@@ -170,16 +170,16 @@ fn scan_with(sheet: &[u8], wide: bool, words: &mut [u64]) -> Checked
 
 // With words of its own, as many as a sheet of the form may have frames.
 fn scan_narrow(sheet: &[u8]) -> Checked
-    requires { someHolds (sizeCauses (sheetOf Form.Narrow sheet.now)) ≡ false }
-    ensures { Checks (frameCauses (sheetOf Form.Narrow sheet.now)) (sheetOf Form.Narrow sheet.now) result.number result.place result.free result.gauges }
+    requires { some_holds (size_causes (sheet_of Form.Narrow sheet.now)) ≡ false }
+    ensures { Checks (frame_causes (sheet_of Form.Narrow sheet.now)) (sheet_of Form.Narrow sheet.now) result.number result.place result.free result.gauges }
 {
     let mut words = [0u64; 200];
     scan_with(sheet, false, &mut words)
 }
 
 fn scan_wide(sheet: &[u8]) -> Checked
-    requires { someHolds (sizeCauses (sheetOf Form.Wide sheet.now)) ≡ false }
-    ensures { Checks (frameCauses (sheetOf Form.Wide sheet.now)) (sheetOf Form.Wide sheet.now) result.number result.place result.free result.gauges }
+    requires { some_holds (size_causes (sheet_of Form.Wide sheet.now)) ≡ false }
+    ensures { Checks (frame_causes (sheet_of Form.Wide sheet.now)) (sheet_of Form.Wide sheet.now) result.number result.place result.free result.gauges }
 {
     let mut words = [0u64; 3000];
     scan_with(sheet, true, &mut words)
@@ -187,8 +187,8 @@ fn scan_wide(sheet: &[u8]) -> Checked
 
 // The frames of a sheet of a right size. `pub` for a run, which looks at its script between size and frames.
 pub fn check_frames(sheet: &[u8], form: Form) -> Checked
-    requires { someHolds (sizeCauses (sheetOf form sheet.now)) ≡ false }
-    ensures { Checks (frameCauses (sheetOf form sheet.now)) (sheetOf form sheet.now) result.number result.place result.free result.gauges }
+    requires { some_holds (size_causes (sheet_of form sheet.now)) ≡ false }
+    ensures { Checks (frame_causes (sheet_of form sheet.now)) (sheet_of form sheet.now) result.number result.place result.free result.gauges }
 {
     match form {
         Form::Narrow => scan_narrow(sheet),
@@ -198,7 +198,7 @@ pub fn check_frames(sheet: &[u8], form: Form) -> Checked
 
 // The check of any bytes as a sheet of the form.
 fn check_form(sheet: &[u8], form: Form) -> Checked
-    ensures { Checks (sheetCauses (sheetOf form sheet.now)) (sheetOf form sheet.now) result.number result.place result.free result.gauges }
+    ensures { Checks (sheet_causes (sheet_of form sheet.now)) (sheet_of form sheet.now) result.number result.place result.free result.gauges }
 {
     let number = size_fault(form, sheet.len());
     if number != 0 {
@@ -209,14 +209,14 @@ fn check_form(sheet: &[u8], form: Form) -> Checked
 
 // As a narrow sheet.
 pub fn check(sheet: &[u8]) -> Checked
-    ensures { Checks (sheetCauses (sheetOf Form.Narrow sheet.now)) (sheetOf Form.Narrow sheet.now) result.number result.place result.free result.gauges }
+    ensures { Checks (sheet_causes (sheet_of Form.Narrow sheet.now)) (sheet_of Form.Narrow sheet.now) result.number result.place result.free result.gauges }
 {
     check_form(sheet, Form::Narrow)
 }
 
 // As a wide one.
 pub fn check_wide(sheet: &[u8]) -> Checked
-    ensures { Checks (sheetCauses (sheetOf Form.Wide sheet.now)) (sheetOf Form.Wide sheet.now) result.number result.place result.free result.gauges }
+    ensures { Checks (sheet_causes (sheet_of Form.Wide sheet.now)) (sheet_of Form.Wide sheet.now) result.number result.place result.free result.gauges }
 {
     check_form(sheet, Form::Wide)
 }

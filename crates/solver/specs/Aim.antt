@@ -4,21 +4,21 @@ use Rattle.std.proofs.Common.{arith, sym, ◌∙◌, ap}
 use Rattle.std.specs.Int.Bits.{bit_or, bit_and, or_zero_r, and_zero_r}
 use Rattle.words.specs.Logic.{clash, or-false}
 use Rattle.words.specs.Word.{bit, bit-or, bit-none}
-use Rattle.words.specs.Mask.{Sub, Apart, without, bit-without, sub-bits, sub_refl, bits-apart, sub_trans, none-sub, without_sub, without-apart, or_apart, apart-sub, apart-sym, apart-bits, without-sum}
-use Rattle.cube.specs.Cube.{Made, made-sub}
+use Rattle.words.specs.Mask.{Sub, Apart, without, bit-without, sub-bits, sub_refl, bits_apart, sub_trans, none-sub, without_sub, without-apart, or_apart, apart-sub, apart-sym, apart-bits, without-sum}
+use Rattle.cube.specs.Cube.{Made, made_sub}
 use Rattle.formula.specs.Assignment.{Assignment}
 use Rattle.formula.specs.Formula.{Formula, free}
 use Rattle.formula.specs.Reason.{Explains}
 use Rattle.formula.specs.Over.{over, over-free, over_none, bounded-over}
 use Rattle.formula.specs.Ask.{Bounded}
 use Rattle.sheet.specs.Fields.{Sheet, variables}
-use Rattle.net.specs.Stands.{Serves, over-serves}
-use Rattle.net.specs.Layout.{freeOf}
+use Rattle.net.specs.Stands.{Serves, over_serves}
+use Rattle.net.specs.Layout.{free_of}
 use Rattle.imply.specs.Halves.{apart-inside}
 use Rattle.solver.specs.Contract.{root, Ready}
-use Rattle.solver.specs.Across.{root-serves, bit-opens}
+use Rattle.solver.specs.Across.{root_serves, bit_opens}
 use Rattle.solver.specs.Question.{asked, Asking}
-use Rattle.solver.specs.Ask.{ready-some, ready-bounded}
+use Rattle.solver.specs.Ask.{ready_some, ready_bounded}
 
 -- what is asked of a sheet: that for every setting of `all` some setting of `some` makes it hold
 abbrev pub asked_of : Sheet → ℕ → ℕ → Formula
@@ -26,21 +26,21 @@ asked_of s all some = over false all (over true some (root s))
 
 -- the masks of an aim are free variables, apart from each other and from m
 pub record Aimed (net : List ℕ) (all some m : ℕ) : Type 0 where
-  pub all-free : Sub all (freeOf net)
-  pub some-free : Sub some (freeOf net)
+  pub all-free : Sub all (free_of net)
+  pub some-free : Sub some (free_of net)
   pub some-all : Apart some all
   pub fixed : Apart (bit_or some all) m
 
 -- ---- an aim, over fewer variables, and without quantifiers
 
-pub aimed-less : {net : List ℕ} {all some m m' : ℕ} → Aimed net all some m → Sub m' m → Aimed net all some m'
-aimed-less A i = record { all-free = A.all-free; some-free = A.some-free; some-all = A.some-all; fixed = apart-sub A.fixed i }
+pub aimed_less : {net : List ℕ} {all some m m' : ℕ} → Aimed net all some m → Sub m' m → Aimed net all some m'
+aimed_less A i = record { all-free = A.all-free; some-free = A.some-free; some-all = A.some-all; fixed = apart-sub A.fixed i }
 
 none_apart : (a : ℕ) → Apart 0 a
 none_apart a = apart-bits 0 a (λ k e. clash (bit 0 k) e (bit-none k))
 
-pub aimed-none : (net : List ℕ) (m : ℕ) → Aimed net 0 0 m
-aimed-none net m = record { all-free = none-sub (freeOf net); some-free = none-sub (freeOf net); some-all = none_apart 0; fixed = or_apart (none_apart m) (none_apart m) }
+pub aimed_none : (net : List ℕ) (m : ℕ) → Aimed net 0 0 m
+aimed_none net m = record { all-free = none-sub (free_of net); some-free = none-sub (free_of net); some-all = none_apart 0; fixed = or_apart (none_apart m) (none_apart m) }
 
 pub asked-none : (s : Sheet) → asked_of s 0 0 ≡ root s
 asked-none s = over_none false (over true 0 (root s)) ∙ over_none true (root s)
@@ -49,19 +49,19 @@ asked-none s = over_none false (over true 0 (root s)) ∙ over_none true (root s
 
 module _ {s : Sheet} {net : List ℕ} {m y : ℕ} {u : List ℕ} {cu : ℕ} {o : List ℕ} {co : ℕ} (R : Ready s net m y u cu o co)
     {all some : ℕ} (A : Aimed net all some m) where
-  pub aimed-serves : Serves (asked_of s all some) (asked net all some)
-  aimed-serves = over-serves false all (over-serves true some (root-serves R.net-of))
+  pub aimed_serves : Serves (asked_of s all some) (asked net all some)
+  aimed_serves = over_serves false all (over_serves true some (root_serves R.net_of))
 
-  pub aimed-bounded : Bounded (variables s) (asked_of s all some)
-  aimed-bounded = bounded-over false all (bounded-over true some (ready-bounded R))
+  pub aimed_bounded : Bounded (variables s) (asked_of s all some)
+  aimed_bounded = bounded-over false all (bounded-over true some (ready_bounded R))
 
   -- it hangs on the free variables that are in neither mask
-  aimed-free : (k : ℕ) → free (asked_of s all some) k ≡ bit (without (freeOf net) (bit_or some all)) k
-  aimed-free k =
+  aimed_free : (k : ℕ) → free (asked_of s all some) k ≡ bit (without (free_of net) (bit_or some all)) k
+  aimed_free k =
       over-free false all (over true some (root s)) k
-      ∙ ap (λ (b : Bool). b && not (bit all k)) (over-free true some (root s) k ∙ ap (λ (b : Bool). b && not (bit some k)) (sym (bit-opens R.net-of k)))
-      ∙ go (bit (freeOf net) k) (bit some k) (bit all k)
-      ∙ sym (bit-without (freeOf net) (bit_or some all) k ∙ ap (λ (b : Bool). bit (freeOf net) k && not b) (bit-or some all k))
+      ∙ ap (λ (b : Bool). b && not (bit all k)) (over-free true some (root s) k ∙ ap (λ (b : Bool). b && not (bit some k)) (sym (bit_opens R.net_of k)))
+      ∙ go (bit (free_of net) k) (bit some k) (bit all k)
+      ∙ sym (bit-without (free_of net) (bit_or some all) k ∙ ap (λ (b : Bool). bit (free_of net) k && not b) (bit-or some all k))
     where
       go : (a b c : Bool) → (a && not b) && not c ≡ a && not (b || c)
       go true true c = refl
@@ -69,14 +69,14 @@ module _ {s : Sheet} {net : List ℕ} {m y : ℕ} {u : List ℕ} {cu : ℕ} {o :
       go false b c = refl
 
   -- the variables that it hangs on are q, and those of q off m' are loose
-  module _ {q loose m' : ℕ} (eq : q ≡ without (freeOf net) (bit_or some all)) (el : loose ≡ without q m') where
-    pub off-cube : Apart loose m'
-    off-cube = rw el (without-apart q m')
+  module _ {q loose m' : ℕ} (eq : q ≡ without (free_of net) (bit_or some all)) (el : loose ≡ without q m') where
+    pub off_cube : Apart loose m'
+    off_cube = rw el (without-apart q m')
 
     -- a reason that avoids the loose variables lies in m'
-    pub aimed-inside : {r : ℕ} {v : Bool} {w : Assignment} → Explains (asked_of s all some) v (bit r) w → Apart r loose → Sub r m'
-    aimed-inside {r} E a = sub-bits r m' (λ k e.
-        go (bit q k) (bit m' k) (ap (λ (x : ℕ). bit x k) eq ∙ sym (aimed-free k) ∙ E.inside k e) (sym (bit-without q m' k) ∙ ap (λ (x : ℕ). bit x k) (sym el) ∙ bits-apart a k e))
+    pub aimed_inside : {r : ℕ} {v : Bool} {w : Assignment} → Explains (asked_of s all some) v (bit r) w → Apart r loose → Sub r m'
+    aimed_inside {r} E a = sub-bits r m' (λ k e.
+        go (bit q k) (bit m' k) (ap (λ (x : ℕ). bit x k) eq ∙ sym (aimed_free k) ∙ E.inside k e) (sym (bit-without q m' k) ∙ ap (λ (x : ℕ). bit x k) (sym el) ∙ bits_apart a k e))
       where
         go : (a b : Bool) → a ≡ true → (a && not b) ≡ false → b ≡ true
         go true true e f = refl
@@ -84,27 +84,27 @@ module _ {s : Sheet} {net : List ℕ} {m y : ℕ} {u : List ℕ} {cu : ℕ} {o :
         go false b e f = clash false e refl
 
     -- the question for its truth t over a cube m', w of variables of m
-    pub aimed-asking : (t : ℕ) {w : ℕ} → 0 < t → t < 3 → Sub m' m → Sub w m' → Asking s net t loose all some m' w u cu o co
-    aimed-asking t a b i j = record {
+    pub aimed_asking : (t : ℕ) {w : ℕ} → 0 < t → t < 3 → Sub m' m → Sub w m' → Asking s net t loose all some m' w u cu o co
+    aimed_asking t a b i j = record {
       masks = record {
-        net-of = R.net-of;
-        frames = ready-some R;
-        target-some = a;
-        target-low = b;
-        loose-free = rw (el, eq) (sub_trans (without_sub (without (freeOf net) (bit_or some all)) m') (without_sub (freeOf net) (bit_or some all)));
+        net_of = R.net_of;
+        frames = ready_some R;
+        target_some = a;
+        target_low = b;
+        loose_free = rw (el, eq) (sub_trans (without_sub (without (free_of net) (bit_or some all)) m') (without_sub (free_of net) (bit_or some all)));
         all-free = A.all-free;
         some-free = A.some-free;
         some-all = A.some-all;
-        inner-loose = rw (el, eq) (apart-sym (apart-inside (without_sub (without (freeOf net) (bit_or some all)) m') (without-apart (freeOf net) (bit_or some all))));
+        inner_loose = rw (el, eq) (apart-sym (apart-inside (without_sub (without (free_of net) (bit_or some all)) m') (without-apart (free_of net) (bit_or some all))));
       };
       assigned = sub_trans i R.entered;
       valued = j;
-      fixed = or_apart (apart-sub A.fixed i) off-cube;
+      fixed = or_apart (apart-sub A.fixed i) off_cube;
       whole = λ x f e.
           let p = or-false (bit (bit_or some all) x) (bit loose x) (sym (bit-or (bit_or some all) loose x) ∙ e) in
-          go (bit (freeOf net) x) (bit (bit_or some all) x) (bit m' x) f p.0
+          go (bit (free_of net) x) (bit (bit_or some all) x) (bit m' x) f p.0
           (sym (ap (λ (z : ℕ). bit z x) el ∙ bit-without q m' x
-          ∙ ap (λ (d : Bool). d && not (bit m' x)) (ap (λ (z : ℕ). bit z x) eq ∙ bit-without (freeOf net) (bit_or some all) x)) ∙ p.1);
+          ∙ ap (λ (d : Bool). d && not (bit m' x)) (ap (λ (z : ℕ). bit z x) eq ∙ bit-without (free_of net) (bit_or some all) x)) ∙ p.1);
       tables = R.tables;
     }
       where
@@ -117,9 +117,9 @@ module _ {s : Sheet} {net : List ℕ} {m y : ℕ} {u : List ℕ} {cu : ℕ} {o :
 -- ---- the last frame itself, where every free variable that is not entered is loose
 
 module _ {s : Sheet} {net : List ℕ} {mask values : ℕ} {u : List ℕ} {cu : ℕ} {o : List ℕ} {co : ℕ} (R : Ready s net mask values u cu o co)
-    {f loose m w : ℕ} (ef : f ≡ freeOf net) (el : loose ≡ without f mask) (M : Made mask values m w) where
-  pub plain-reach : f ≡ without (freeOf net) (bit_or 0 0)
-  plain-reach = omega (arith, ef, without-sum (freeOf net) (bit_or 0 0), ap (bit_and (freeOf net)) (or_zero_r 0) ∙ and_zero_r (freeOf net))
+    {f loose m w : ℕ} (ef : f ≡ free_of net) (el : loose ≡ without f mask) (M : Made mask values m w) where
+  pub plain_reach : f ≡ without (free_of net) (bit_or 0 0)
+  plain_reach = omega (arith, ef, without-sum (free_of net) (bit_or 0 0), ap (bit_and (free_of net)) (or_zero_r 0) ∙ and_zero_r (free_of net))
 
-  pub plain-asking : Asking s net 2 loose 0 0 m w u cu o co
-  plain-asking = aimed-asking R (aimed-none net mask) plain-reach (rw M.mask el) 2 (omega arith) (omega arith) (rw M.mask (sub_refl mask)) (made-sub M)
+  pub plain_asking : Asking s net 2 loose 0 0 m w u cu o co
+  plain_asking = aimed_asking R (aimed_none net mask) plain_reach (rw M.mask el) 2 (omega arith) (omega arith) (rw M.mask (sub_refl mask)) (made_sub M)

@@ -5,25 +5,25 @@ use Rattle.std.proofs.Math.Path.{ap}
 use Rattle.std.specs.Int.Bits.{bit_or}
 use Rattle.words.specs.Logic.{by_bool, clash, not-not}
 use Rattle.words.specs.Word.{bit, bit-pow}
-use Rattle.words.specs.Mask.{Sub, Apart, without, sub_refl, bits-apart, bits-sub, sub_trans, sub-without, without_sub, without-apart, apart-sub, apart-sym, apart-bits}
-use Rattle.cube.specs.Cube.{Freed, freed-sub, freed-one}
+use Rattle.words.specs.Mask.{Sub, Apart, without, sub_refl, bits_apart, bits_sub, sub_trans, sub-without, without_sub, without-apart, apart-sub, apart-sym, apart-bits}
+use Rattle.cube.specs.Cube.{Freed, freed_sub, freed_one}
 use Rattle.formula.specs.Assignment.{On}
 use Rattle.formula.specs.Formula.{Formula}
-use Rattle.formula.specs.Reason.{Explains, explains-truth, explains-set}
+use Rattle.formula.specs.Reason.{Explains, explains_truth, explains_set}
 use Rattle.formula.specs.Over.{over}
-use Rattle.formula.specs.Why.{reduce, explains-always, fails-always, reduce-drop, reduce-keep, reduce-skip}
+use Rattle.formula.specs.Why.{reduce, explains_always, fails-always, reduce-drop, reduce-keep, reduce_skip}
 use Rattle.form.specs.Form.{few-variables}
 use Rattle.sheet.specs.Fields.{Sheet, variables}
-use Rattle.records.specs.Both.{tables-same, tables_then}
-use Rattle.net.specs.Layout.{netForm, freeOf, val, val-flip}
+use Rattle.records.specs.Both.{tables_same, tables_then}
+use Rattle.net.specs.Layout.{net_form, free_of, val, val_flip}
 use Rattle.net.specs.Sheet.{net-form}
 use Rattle.search.specs.Search.{Found, Lost}
-use Rattle.imply.specs.Halves.{bit-plus, off-mask, or-none}
+use Rattle.imply.specs.Halves.{bit_plus, off-mask, or-none}
 use Rattle.solver.specs.Contract.{Ready, TablesGrown}
-use Rattle.solver.specs.Across.{found-serves, lost-serves}
+use Rattle.solver.specs.Across.{found_serves, lost_serves}
 use Rattle.solver.specs.Question.{asked, Asking}
 use Rattle.form.specs.Form as Sizes
-use Rattle.solver.specs.Aim.{asked_of, Aimed, aimed-serves, aimed-bounded, aimed-inside, aimed-asking, off-cube}
+use Rattle.solver.specs.Aim.{asked_of, Aimed, aimed_serves, aimed_bounded, aimed_inside, aimed_asking, off_cube}
 
 -- what is left of w is the cube m, y, inside which the variables of r force the truth v of φ
 pub record Held (φ : Formula) (v w m y r : ℕ) : Type 0 where
@@ -41,68 +41,68 @@ pub record Turned (n : ℕ) (φ : Formula) (v m y r x m' y' r' : ℕ) : Type 0 w
 -- ---- one turn
 
 -- the variable is not there
-pub turned-absent : {n : ℕ} {φ : Formula} {v m y r x : ℕ} → bit m x ≡ false → Turned n φ v m y r x m y r
-turned-absent {n} {φ} {v} {m} {x = x} e = record {
+pub turned_absent : {n : ℕ} {φ : Formula} {v m y r x : ℕ} → bit m x ≡ false → Turned n φ v m y r x m y r
+turned_absent {n} {φ} {v} {m} {x = x} e = record {
   less = sub_refl m;
   valued = λ i. i;
   held = λ w h. h;
-  step = λ w h. reduce-skip n φ w (val v) x m e;
+  step = λ w h. reduce_skip n φ w (val v) x m e;
 }
 
 -- the cube m, y without x is m', y'
 module _ {s : Sheet} {net : List ℕ} {m y : ℕ} {u : List ℕ} {cu : ℕ} {o : List ℕ} {co : ℕ} (R : Ready s net m y u cu o co)
     {all some : ℕ} (A : Aimed net all some m) {v x : ℕ} (a : 0 < v) (b : v < 3) (l : x < 64) {m' y' : ℕ} (F : Freed 64 m y x m' y') where
   mask_is : m' ≡ without m (2 ^ x)
-  mask_is = (freed-one l F).mask
+  mask_is = (freed_one l F).mask
 
-  values-are : y' ≡ without y (2 ^ x)
-  values-are = (freed-one l F).values
+  values_are : y' ≡ without y (2 ^ x)
+  values_are = (freed_one l F).values
 
-  less-sub : Sub m' m
-  less-sub = rw mask_is (without_sub m (2 ^ x))
+  less_sub : Sub m' m
+  less_sub = rw mask_is (without_sub m (2 ^ x))
 
   still-same : (w : ℕ) → ((k : ℕ) → bit m k ≡ true → bit y k ≡ bit w k) → (k : ℕ) → bit m' k ≡ true → bit y' k ≡ bit w k
   still-same w h k e =
       let c = rw mask_is at e in
-      ap (λ (z : ℕ). bit z k) values-are ∙ off-mask y (2 ^ x) k (bits-apart (without-apart m (2 ^ x)) k c) ∙ h k (bits-sub (without_sub m (2 ^ x)) k c)
+      ap (λ (z : ℕ). bit z k) values_are ∙ off-mask y (2 ^ x) k (bits_apart (without-apart m (2 ^ x)) k c) ∙ h k (bits_sub (without_sub m (2 ^ x)) k c)
 
   -- it is outside the proved reason
-  pub turned-idle : {r : ℕ} → bit r x ≡ false → Turned (variables s) (asked_of s all some) v m y r x m' y' r
-  turned-idle {r} e = record {
-    less = less-sub;
-    valued = λ i. freed-sub F i;
+  pub turned_idle : {r : ℕ} → bit r x ≡ false → Turned (variables s) (asked_of s all some) v m y r x m' y' r
+  turned_idle {r} e = record {
+    less = less_sub;
+    valued = λ i. freed_sub F i;
     held = λ w h. record { same = still-same w h.same; explains = h.explains; inside = rw mask_is (stays h) };
-    step = λ w h. rw mask_is (reduce-drop (variables s) (asked_of s all some) w (val v) x m (explains-always (variables s) (asked_of s all some) (without m (2 ^ x)) w (val v) r h.explains (stays h)));
+    step = λ w h. rw mask_is (reduce-drop (variables s) (asked_of s all some) w (val v) x m (explains_always (variables s) (asked_of s all some) (without m (2 ^ x)) w (val v) r h.explains (stays h)));
   }
     where
       stays : {w : ℕ} → Held (asked_of s all some) v w m y r → Sub r (without m (2 ^ x))
       stays h = sub-without h.inside (apart-bits r (2 ^ x) (λ k i. bit-pow x k ∙ by_bool (eqb k x) (λ q. clash (bit r k) i (ap (bit r) (eqb-true k x q) ∙ e)) (λ q. q)))
 
   -- the search for the other truth with x dropped; q are the variables that what is asked hangs on
-  module _ {q loose : ℕ} (eq : q ≡ without (freeOf net) (bit_or some all)) (el : loose ≡ without q m') where
-    pub less-asking : Asking s net (3 - v) loose all some m' y' u cu o co
-    less-asking = aimed-asking R A eq el (3 - v) (omega arith) (omega arith) less-sub (freed-sub F R.valued)
+  module _ {q loose : ℕ} (eq : q ≡ without (free_of net) (bit_or some all)) (el : loose ≡ without q m') where
+    pub less_asking : Asking s net (3 - v) loose all some m' y' u cu o co
+    less_asking = aimed_asking R A eq el (3 - v) (omega arith) (omega arith) less_sub (freed_sub F R.valued)
 
     -- it shows that x is idle
-    pub turned-dropped : {r z : ℕ} → Lost (asked net all some) (val (3 - v)) loose y' z → Turned (variables s) (asked_of s all some) v m y r x m' y' z
-    turned-dropped {r} {z} h = record {
-      less = less-sub;
-      valued = λ i. freed-sub F i;
-      held = λ w g. record { same = still-same w g.same; explains = shown w g; inside = inside-it };
-      step = λ w g. rw mask_is (reduce-drop (variables s) (asked_of s all some) w (val v) x m (explains-always (variables s) (asked_of s all some) (without m (2 ^ x)) w (val v) z (shown w g) (rw mask_is at inside-it)));
+    pub turned_dropped : {r z : ℕ} → Lost (asked net all some) (val (3 - v)) loose y' z → Turned (variables s) (asked_of s all some) v m y r x m' y' z
+    turned_dropped {r} {z} h = record {
+      less = less_sub;
+      valued = λ i. freed_sub F i;
+      held = λ w g. record { same = still-same w g.same; explains = shown w g; inside = inside_it };
+      step = λ w g. rw mask_is (reduce-drop (variables s) (asked_of s all some) w (val v) x m (explains_always (variables s) (asked_of s all some) (without m (2 ^ x)) w (val v) z (shown w g) (rw mask_is at inside_it)));
     }
       where
         lost : Lost (asked_of s all some) (val (3 - v)) loose y' z
-        lost = lost-serves (aimed-serves R A) h
+        lost = lost_serves (aimed_serves R A) h
 
         truth-is : not (val (3 - v)) ≡ val v
-        truth-is = ap not (val-flip v a b) ∙ not-not (val v)
+        truth-is = ap not (val_flip v a b) ∙ not-not (val v)
 
-        inside-it : Sub z m'
-        inside-it = aimed-inside R A eq el lost.explains lost.apart
+        inside_it : Sub z m'
+        inside_it = aimed_inside R A eq el lost.explains lost.apart
 
         shown : (w : ℕ) → Held (asked_of s all some) v w m y r → Explains (asked_of s all some) (val v) (bit z) (bit w)
-        shown w g = explains-set (rw truth-is at lost.explains) (bit w) (λ k i. still-same w g.same k (bits-sub inside-it k i))
+        shown w g = explains_set (rw truth-is at lost.explains) (bit w) (λ k i. still-same w g.same k (bits_sub inside_it k i))
 
     -- it shows that x is not
     pub turned-kept : {r word z : ℕ} → Found (asked net all some) (val (3 - v)) loose y' word z → Turned (variables s) (asked_of s all some) v m y r x m y r
@@ -111,21 +111,21 @@ module _ {s : Sheet} {net : List ℕ} {m y : ℕ} {u : List ℕ} {cu : ℕ} {o :
       valued = λ i. i;
       held = λ w g. g;
       step = λ w g. reduce-keep (variables s) (asked_of s all some) w (val v) x m
-          (fails-always (variables s) (asked_of s all some) (without m (2 ^ x)) w (val v) (aimed-bounded R A) (bit word) (agrees w g) (explains-truth found.explains ∙ val-flip v a b));
+          (fails-always (variables s) (asked_of s all some) (without m (2 ^ x)) w (val v) (aimed_bounded R A) (bit word) (agrees w g) (explains_truth found.explains ∙ val_flip v a b));
     }
       where
         found : Found (asked_of s all some) (val (3 - v)) loose y' word z
-        found = found-serves (aimed-serves R A) h
+        found = found_serves (aimed_serves R A) h
 
-        chosen-off : Apart m' found.chosen
-        chosen-off = apart-sub (apart-sym (off-cube R A eq el)) found.inside
+        chosen_off : Apart m' found.chosen
+        chosen_off = apart-sub (apart-sym (off_cube R A eq el)) found.inside
 
         agrees : (w : ℕ) → Held (asked_of s all some) v w m y r → On (bit (without m (2 ^ x))) (bit word) (bit w)
         agrees w g k i =
             let c = rw (sym mask_is) at i in
             ap (λ (d : ℕ). bit d k) found.is
-            ∙ bit-plus (apart-sym (apart-sub (apart-sym chosen-off) (freed-sub F R.valued))) k
-            ∙ or-none (bit y' k) (bit found.chosen k) (bits-apart chosen-off k c)
+            ∙ bit_plus (apart-sym (apart-sub (apart-sym chosen_off) (freed_sub F R.valued))) k
+            ∙ or-none (bit y' k) (bit found.chosen k) (bits_apart chosen_off k c)
             ∙ still-same w g.same k c
 
 -- ---- the loop over the variables: after those from x on, m, y with the reason r are left of the start m₀, w
@@ -143,23 +143,23 @@ pub record Turning (net : List ℕ) (all some v m₀ w r₀ : ℕ) (u₀ : List 
   pub same : now ≡ net
   pub each : (s : Sheet) → Ready s net m₀ w u₀ cu₀ o₀ co₀ → Held (asked_of s all some) v w m₀ w r₀ → Reducing s net (asked_of s all some) v m₀ w u₀ cu₀ o₀ co₀ x m y r u cu o co
 
-pub turning-start : {net : List ℕ} {all some v m w r : ℕ} {u : List ℕ} {cu : ℕ} {o : List ℕ} {co x : ℕ} → x ≡ Sizes.variables (netForm net)
+pub turning_start : {net : List ℕ} {all some v m w r : ℕ} {u : List ℕ} {cu : ℕ} {o : List ℕ} {co x : ℕ} → x ≡ Sizes.variables (net_form net)
     → Turning net all some v m w r u cu o co x m w r net u cu o co
-turning-start {net} {all} {some} {v} {m} {w} {x = x} e = record {
-  low = omega (arith, e, few-variables (netForm net));
+turning_start {net} {all} {some} {v} {m} {w} {x = x} e = record {
+  low = omega (arith, e, few-variables (net_form net));
   same = refl;
   each = λ s R h.
-      let every : variables s ≡ x = ap Sizes.variables (sym (net-form R.net-of)) ∙ sym e in
-      record { turned = ap (λ (z : ℕ). reduce (variables s) (asked_of s all some) w (val v) z m) every; less = sub_refl m; held = h; ready = R; kept = tables-same R.tables };
+      let every : variables s ≡ x = ap Sizes.variables (sym (net-form R.net_of)) ∙ sym e in
+      record { turned = ap (λ (z : ℕ). reduce (variables s) (asked_of s all some) w (val v) z m) every; less = sub_refl m; held = h; ready = R; kept = tables_same R.tables };
 }
 
 module _ {net : List ℕ} {all some v m₀ w r₀ : ℕ} {u₀ : List ℕ} {cu₀ : ℕ} {o₀ : List ℕ} {co₀ x m y r : ℕ} {now u : List ℕ} {cu : ℕ} {o : List ℕ} {co : ℕ}
     (I : Turning net all some v m₀ w r₀ u₀ cu₀ o₀ co₀ x m y r now u cu o co) where
-  pub turning-next : {m' y' r' : ℕ} {now' u' : List ℕ} {cu' : ℕ} {o' : List ℕ} {co' : ℕ} → 0 < x
+  pub turning_next : {m' y' r' : ℕ} {now' u' : List ℕ} {cu' : ℕ} {o' : List ℕ} {co' : ℕ} → 0 < x
       → now' ≡ now
       → ((s : Sheet) → Ready s now m y u cu o co → Turned (variables s) (asked_of s all some) v m y r (x - 1) m' y' r' × TablesGrown s u cu o co u' cu' o' co')
       → Turning net all some v m₀ w r₀ u₀ cu₀ o₀ co₀ (x - 1) m' y' r' now' u' cu' o' co'
-  turning-next {m'} {y'} {r'} {u' = u'} {cu' = cu'} {o' = o'} {co' = co'} p e t = record {
+  turning_next {m'} {y'} {r'} {u' = u'} {cu' = cu'} {o' = o'} {co' = co'} p e t = record {
     low = omega (arith, I.low);
     same = e ∙ I.same;
     each = λ s R h. step s (I.each s R h) (rw I.same at (t s));
@@ -179,7 +179,7 @@ module _ {net : List ℕ} {all some v m₀ w r₀ : ℕ} {u₀ : List ℕ} {cu�
             held = T.0.held w J.held;
             ready = record {
               checked = J.ready.checked;
-              net-of = J.ready.net-of;
+              net_of = J.ready.net_of;
               entered = sub_trans T.0.less J.ready.entered;
               valued = T.0.valued J.ready.valued;
               tables = T.1.tables;

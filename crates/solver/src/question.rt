@@ -2,7 +2,7 @@
 // question's own, so that what is judged at its beginning is never set back.
 ghost use Rattle.std.specs.Prelude.{◌≡◌, ◌<◌, ◌≤◌, length};
 ghost use Rattle.sheet.specs.Fields.{Sheet};
-ghost use Rattle.net.specs.Layout.{framesOf, Ground};
+ghost use Rattle.net.specs.Layout.{frames_of, Ground};
 ghost use Rattle.proxies.specs.Growing.{Growing};
 ghost use Rattle.search.specs.Search.{Settled};
 ghost use Rattle.solver.specs.Question.{asked, Masks, Asking, Layered, Placed, Scratch};
@@ -37,7 +37,7 @@ fn fresh(assigned: u64) -> u64 {
 
 // Puts a quantifier at place i, if it has variables. The answer is the next place.
 fn layer(net: &mut [u64], i: usize, d: u8, mask: u64) -> usize
-    requires { Ground net.old × (0 < framesOf net.old) × (i < 3) × (0 < d) × (d < 3) }
+    requires { Ground net.old × (0 < frames_of net.old) × (i < 3) × (0 < d) × (d < 3) }
     ensures { Layered net.old i d mask net.new result }
 {
     if mask == 0 {

@@ -5,9 +5,9 @@ ghost use Rattle.words.specs.Mask as Mask;
 ghost use Rattle.formula.specs.Why as Formula;
 ghost use Rattle.formula.specs.Why.{reduce};
 ghost use Rattle.form.specs.Form as Sizes;
-ghost use Rattle.net.specs.Layout.{netForm, freeOf, gaugesOf, val};
+ghost use Rattle.net.specs.Layout.{net_form, free_of, gauges_of, val};
 ghost use Rattle.sheet.specs.Fields.{Sheet, variables};
-ghost use Rattle.solver.specs.Contract.{root, Ready, TablesGrown, reasonOf, Same};
+ghost use Rattle.solver.specs.Contract.{root, Ready, TablesGrown, reason_of, Same};
 ghost use Rattle.solver.specs.Aim.{asked_of, Aimed};
 ghost use Rattle.solver.specs.Why.{Held, Turned};
 
@@ -36,7 +36,7 @@ struct Left {
 // The variables that it hangs on.
 fn reach(net: &[u64], aim: Aim) -> u64
     requires { 1 < length net.now }
-    ensures { result ≡ Mask.without (freeOf net.now) (bit_or aim.some aim.all) }
+    ensures { result ≡ Mask.without (free_of net.now) (bit_or aim.some aim.all) }
 {
     w64::without(net::free(net), aim.some | aim.all)
 }
@@ -92,7 +92,7 @@ fn dropped(
 
 // How many variables the sheet of the net may have.
 fn variables_of(net: &[u64]) -> u8
-    ensures { result ≡ Sizes.variables (netForm net.now) }
+    ensures { result ≡ Sizes.variables (net_form net.now) }
 {
     let form = net::form(net);
     form::variables(form)
@@ -192,9 +192,9 @@ fn gauged(
     over: &mut [u32],
     kept: Counts,
 ) -> Answered
-    requires { ((s : Sheet) × Ready s net.old mask values under.old kept.under over.old kept.over) × (0 < gaugesOf net.old) }
+    requires { ((s : Sheet) × Ready s net.old mask values under.old kept.under over.old kept.over) × (0 < gauges_of net.old) }
     ensures net_unchanged { net.new ≡ net.old }
-    ensures same { (s : Sheet) → Ready s net.old mask values under.old kept.under over.old kept.over → Same (reasonOf s mask values) result.holds result.word × TablesGrown s under.old kept.under over.old kept.over under.new result.kept.under over.new result.kept.over }
+    ensures same { (s : Sheet) → Ready s net.old mask values under.old kept.under over.old kept.over → Same (reason_of s mask values) result.holds result.word × TablesGrown s under.old kept.under over.old kept.over under.new result.kept.under over.new result.kept.over }
 {
     let all = unread(&net[..], mask);
     let some = ours(&net[..], mask);
@@ -240,7 +240,7 @@ pub fn why(
 ) -> Answered
     requires { (s : Sheet) × Ready s net.old mask values under.old kept.under over.old kept.over }
     ensures net_unchanged { net.new ≡ net.old }
-    ensures same { (s : Sheet) → Ready s net.old mask values under.old kept.under over.old kept.over → Same (reasonOf s mask values) result.holds result.word × TablesGrown s under.old kept.under over.old kept.over under.new result.kept.under over.new result.kept.over }
+    ensures same { (s : Sheet) → Ready s net.old mask values under.old kept.under over.old kept.over → Same (reason_of s mask values) result.holds result.word × TablesGrown s under.old kept.under over.old kept.over under.new result.kept.under over.new result.kept.over }
 {
     if net::gauges(&net[..]) == 0 {
         return plain(net, mask, values, under, over, kept);

@@ -1,14 +1,14 @@
 // ASK: whether the free variables that are not entered can be chosen so that the sheet holds, whatever the gauges among them are, and the smallest choice.
 ghost use Rattle.std.specs.Prelude.{◌≡◌, ◌<◌, ◌≤◌, length};
 ghost use Rattle.formula.specs.Ask as Formula;
-ghost use Rattle.form.specs.Form.{recordStart, wordEnd};
+ghost use Rattle.form.specs.Form.{record_start, word_end};
 ghost use Rattle.formula.specs.Gauges.{possible};
 ghost use Rattle.sheet.specs.Fields.{Sheet, variables};
 ghost use Rattle.sheet.specs.Rules.{gauges};
 ghost use Rattle.search.specs.Search.{Settled};
-ghost use Rattle.net.specs.Layout.{Ground, netForm, framesOf};
+ghost use Rattle.net.specs.Layout.{Ground, net_form, frames_of};
 ghost use Rattle.net.specs.Sheet.{NetOf};
-ghost use Rattle.solver.specs.Contract.{root, Ready, TablesGrown, verdictOf, unreadOf, oursOf, Promised, Same};
+ghost use Rattle.solver.specs.Contract.{root, Ready, TablesGrown, verdict_of, unread_of, ours_of, Promised, Same};
 ghost use Rattle.solver.specs.Ask.{Ensured, PromisedChosen};
 ghost use Rattle.solver.specs.GaugedAsk.{Failed};
 
@@ -38,7 +38,7 @@ fn ensure(
     setting: u64,
     reason: u64,
 ) -> usize
-    requires { (recordStart form count ≤ length table.old) × (assigned < wordEnd form) × (reason < wordEnd form) }
+    requires { (record_start form count ≤ length table.old) × (assigned < word_end form) × (reason < word_end form) }
     ensures { Ensured form table.old count table.new result frame assigned setting reason }
 {
     let found = records::search(&table[..], form, count, frame, assigned, setting);
@@ -119,7 +119,7 @@ fn chosen(
 // The gauges that are free and not entered.
 pub fn unread(net: &[u64], mask: u64) -> u64
     requires { (s : Sheet) × NetOf s net.now }
-    ensures { (s : Sheet) → NetOf s net.now → result ≡ unreadOf s mask }
+    ensures { (s : Sheet) → NetOf s net.now → result ≡ unread_of s mask }
 {
     w64::without(net::free(net), mask) & net::gauges(net)
 }
@@ -127,7 +127,7 @@ pub fn unread(net: &[u64], mask: u64) -> u64
 // The other free variables that are not entered.
 pub fn ours(net: &[u64], mask: u64) -> u64
     requires { (s : Sheet) × NetOf s net.now }
-    ensures { (s : Sheet) → NetOf s net.now → result ≡ oursOf s mask }
+    ensures { (s : Sheet) → NetOf s net.now → result ≡ ours_of s mask }
 {
     w64::without(w64::without(net::free(net), mask), net::gauges(net))
 }
@@ -143,7 +143,7 @@ pub fn failing(
 ) -> Outcome
     requires { (s : Sheet) × Ready s net.old mask values under.old kept.under over.old kept.over }
     ensures net_unchanged { net.new ≡ net.old }
-    ensures settled { (s : Sheet) → Ready s net.old mask values under.old kept.under over.old kept.over → Settled (possible (variables s) (root s) (gauges s) mask) 1 (unreadOf s mask) values result.found result.word result.reason × TablesGrown s under.old kept.under over.old kept.over under.new result.kept.under over.new result.kept.over }
+    ensures settled { (s : Sheet) → Ready s net.old mask values under.old kept.under over.old kept.over → Settled (possible (variables s) (root s) (gauges s) mask) 1 (unread_of s mask) values result.found result.word result.reason × TablesGrown s under.old kept.under over.old kept.over under.new result.kept.under over.new result.kept.over }
 {
     let unset = unread(&net[..], mask);
     let rest = ours(&net[..], mask);
@@ -158,7 +158,7 @@ pub fn failing(
 
 // A no, by a setting that fails: its record speaks of the assigned variables only.
 fn failed(net: &[u64], assigned: u64, mask: u64, s: Outcome, over: &mut [u32]) -> Answered
-    requires { Ground net.now × (0 < framesOf net.now) × (recordStart (netForm net.now) s.kept.over ≤ length over.old) }
+    requires { Ground net.now × (0 < frames_of net.now) × (record_start (net_form net.now) s.kept.over ≤ length over.old) }
     ensures { Failed net.now assigned mask s.word s.reason over.old s.kept.over over.new result.kept.over result.holds result.word × (result.kept.under ≡ s.kept.under) }
 {
     let form = net::form(net);
@@ -195,7 +195,7 @@ pub fn ask(
 ) -> Answered
     requires { (s : Sheet) × Ready s net.old mask values under.old kept.under over.old kept.over }
     ensures net_unchanged { net.new ≡ net.old }
-    ensures same { (s : Sheet) → Ready s net.old mask values under.old kept.under over.old kept.over → Same (verdictOf s mask values) result.holds result.word × TablesGrown s under.old kept.under over.old kept.over under.new result.kept.under over.new result.kept.over × Promised s mask values (verdictOf s mask values) under.new result.kept.under over.new result.kept.over }
+    ensures same { (s : Sheet) → Ready s net.old mask values under.old kept.under over.old kept.over → Same (verdict_of s mask values) result.holds result.word × TablesGrown s under.old kept.under over.old kept.over under.new result.kept.under over.new result.kept.over × Promised s mask values (verdict_of s mask values) under.new result.kept.under over.new result.kept.over }
 {
     let waiting = unread(&net[..], mask);
     if waiting == 0 {

@@ -8,12 +8,12 @@ use Rattle.std.proofs.Math.Path.{refl}
 use Rattle.std.proofs.Math.Dec.{ltb}
 use Rattle.std.proofs.Math.Seq.{take-nil}
 use Rattle.words.specs.Logic.{by_bool}
-use Rattle.form.specs.Form.{frameBytes, mostFrames}
+use Rattle.form.specs.Form.{frame_bytes, most_frames}
 use Rattle.form.specs.declared.Form.{Form}
 use Rattle.form.specs.declared.Form.TheVariants.{Narrow, Wide}
-use Rattle.text.specs.Line.{head, ending, digits, lineSize, bytes, lines}
+use Rattle.text.specs.Line.{head, ending, digits, line_size, bytes, lines}
 use Rattle.text.specs.LineLaws.{ending-most}
-use Rattle.text.specs.Reading.{scriptFrames, scriptFrameBytes, beginsWide, textForm, other, sheetFault, readSheet, readingIn, reading}
+use Rattle.text.specs.Reading.{script_frames, script_frame_bytes, begins_wide, text_form, other, sheet_fault, read_sheet, reading_in, reading}
 
 -- ---- one line
 
@@ -54,18 +54,18 @@ bytes-prefix (suc n) k l h =
     )
 
 -- the line of w bytes takes two bytes more than its digits at most
-abbrev lineMost : ℕ → ℕ
-lineMost w = 2 * w + 2
+abbrev line_most : ℕ → ℕ
+line_most w = 2 * w + 2
 
 module _ (w : ℕ) where
-  size-most : (l : List ℕ) → lineSize w l ≤ lineMost w
-  unfolding lineSize
+  size-most : (l : List ℕ) → line_size w l ≤ line_most w
+  unfolding line_size
   size-most l =
       by_bool (digits (2 * w) l && ltb 0 (ending (drop (2 * w) l)))
       (λ t. rw t (omega (arith, ending-most (drop (2 * w) l)))) (λ f. rw f (omega arith))
 
-  size-prefix : (k : ℕ) (l : List ℕ) → lineMost w ≤ k → lineSize w (take k l) ≡ lineSize w l
-  unfolding lineSize
+  size-prefix : (k : ℕ) (l : List ℕ) → line_most w ≤ k → line_size w (take k l) ≡ line_size w l
+  unfolding line_size
   size-prefix k l h =
       rw (
         digits-prefix (2 * w) k l (omega arith),
@@ -78,29 +78,29 @@ module _ (w : ℕ) where
   -- the lines of the first k bytes are those of l, with `left` bytes left of what stands behind them
   record Prefix (n k : ℕ) (l : List ℕ) : Type 0 where
     left : ℕ
-    enough : k ≤ left + lineMost w * n
+    enough : k ≤ left + line_most w * n
     same : lines w n (take k l) ≡ record { count = (lines w n l).count; frames = (lines w n l).frames; rest = take left (lines w n l).rest }
 
-  turn-prefix : (n k : ℕ) (l : List ℕ) → lineMost w ≤ k → ltb 0 (lineSize w l) ≡ true → Prefix n (k - lineSize w l) (drop (lineSize w l) l) → Prefix (suc n) k l
+  turn-prefix : (n k : ℕ) (l : List ℕ) → line_most w ≤ k → ltb 0 (line_size w l) ≡ true → Prefix n (k - line_size w l) (drop (line_size w l) l) → Prefix (suc n) k l
   unfolding lines
   turn-prefix n k l h t r = record {
     left = r.left;
-    enough = omega (arith, size-most l, r.enough, mul-suc (lineMost w) n);
-    same = rw (size-prefix k l h, t, drop-prefix (lineSize w l) k l (omega (arith, size-most l)), r.same, bytes-prefix w k l (omega arith));
+    enough = omega (arith, size-most l, r.enough, mul-suc (line_most w) n);
+    same = rw (size-prefix k l h, t, drop-prefix (line_size w l) k l (omega (arith, size-most l)), r.same, bytes-prefix w k l (omega arith));
   }
 
-  stop-prefix : (n k : ℕ) (l : List ℕ) → lineMost w ≤ k → ltb 0 (lineSize w l) ≡ false → Prefix (suc n) k l
+  stop_prefix : (n k : ℕ) (l : List ℕ) → line_most w ≤ k → ltb 0 (line_size w l) ≡ false → Prefix (suc n) k l
   unfolding lines
-  stop-prefix n k l h f = record { left = k; enough = omega arith; same = rw (size-prefix k l h, f) }
+  stop_prefix n k l h f = record { left = k; enough = omega arith; same = rw (size-prefix k l h, f) }
 
-  lines-prefix : (n k : ℕ) (l : List ℕ) → lineMost w * n + lineMost w ≤ k → Prefix n k l
+  lines-prefix : (n k : ℕ) (l : List ℕ) → line_most w * n + line_most w ≤ k → Prefix n k l
   unfolding lines
   lines-prefix zero k l h = record { left = k; enough = omega arith; same = refl }
   lines-prefix (suc n) k l h =
-      let s = mul-suc (lineMost w) n in
-      by_bool (ltb 0 (lineSize w l))
-      (λ t. turn-prefix n k l (omega (arith, s)) t (lines-prefix n (k - lineSize w l) (drop (lineSize w l) l) (omega (arith, s, size-most l))))
-      (λ f. stop-prefix n k l (omega (arith, s)) f)
+      let s = mul-suc (line_most w) n in
+      by_bool (ltb 0 (line_size w l))
+      (λ t. turn-prefix n k l (omega (arith, s)) t (lines-prefix n (k - line_size w l) (drop (line_size w l) l) (omega (arith, s, size-most l))))
+      (λ f. stop_prefix n k l (omega (arith, s)) f)
 
 -- ---- the whole text
 
@@ -114,40 +114,40 @@ abbrev pub decisive : ℕ
 decisive = 58038
 
 -- one sheet line too many, and a line of either form
-sheet-most : (F : Form) → lineMost (frameBytes F) * suc (mostFrames F) ≤ 48016
+sheet-most : (F : Form) → line_most (frame_bytes F) * suc (most_frames F) ≤ 48016
 sheet-most Narrow = omega arith
 sheet-most Wide = omega arith
 
-line-most : (F : Form) → lineMost (frameBytes F) ≤ 16
+line-most : (F : Form) → line_most (frame_bytes F) ≤ 16
 line-most Narrow = omega arith
 line-most Wide = omega arith
 
-fault-prefix : (F : Form) (k : ℕ) (l : List ℕ) → 16 ≤ k → sheetFault F (take k l) ≡ sheetFault F l
-unfolding sheetFault
-fault-prefix F k l h = rw (size-prefix (frameBytes (other F)) k l (omega (arith, line-most (other F))))
+fault_prefix : (F : Form) (k : ℕ) (l : List ℕ) → 16 ≤ k → sheet_fault F (take k l) ≡ sheet_fault F l
+unfolding sheet_fault
+fault_prefix F k l h = rw (size-prefix (frame_bytes (other F)) k l (omega (arith, line-most (other F))))
 
-in-prefix : (F : Form) (k : ℕ) (text : List ℕ) → decisive ≤ k → readingIn F (take k text) ≡ readingIn F text
-unfolding readingIn
-in-prefix F k text h =
-    let w = frameBytes F in
-    let most = suc (mostFrames F) in
+in_prefix : (F : Form) (k : ℕ) (text : List ℕ) → decisive ≤ k → reading_in F (take k text) ≡ reading_in F text
+unfolding reading_in
+in_prefix F k text h =
+    let w = frame_bytes F in
+    let most = suc (most_frames F) in
     let p = lines-prefix w most k text (omega (arith, sheet-most F, line-most F)) in
     let s = (lines w most text).rest in
     let left : decisive ≤ p.left + 48016 = omega (arith, p.enough, sheet-most F) in
-    let q = lines-prefix scriptFrameBytes (suc scriptFrames) (p.left - ending s) (drop (ending s) s) (omega (arith, left, ending-most s)) in
-    ap (readSheet F (sheetFault F)) p.same
+    let q = lines-prefix script_frame_bytes (suc script_frames) (p.left - ending s) (drop (ending s) s) (omega (arith, left, ending-most s)) in
+    ap (read_sheet F (sheet_fault F)) p.same
     ∙ rw (
       ending-prefix p.left s (omega (arith, left)),
-      fault-prefix F p.left s (omega (arith, left)),
+      fault_prefix F p.left s (omega (arith, left)),
       drop-prefix (ending s) p.left s (omega (arith, left, ending-most s)),
       q.same,
-      some_left q.left (lines scriptFrameBytes (suc scriptFrames) (drop (ending s) s)).rest (omega (arith, left, q.enough, ending-most s)),
+      some_left q.left (lines script_frame_bytes (suc script_frames) (drop (ending s) s)).rest (omega (arith, left, q.enough, ending-most s)),
     )
 
-form-prefix : (k : ℕ) (text : List ℕ) → decisive ≤ k → textForm (take k text) ≡ textForm text
-unfolding beginsWide
-form-prefix k text h = rw (size-prefix (frameBytes Wide) k text (omega arith))
+form_prefix : (k : ℕ) (text : List ℕ) → decisive ≤ k → text_form (take k text) ≡ text_form text
+unfolding begins_wide
+form_prefix k text h = rw (size-prefix (frame_bytes Wide) k text (omega arith))
 
 pub reading-prefix : (k : ℕ) (text : List ℕ) → decisive ≤ k → reading (take k text) ≡ reading text
 unfolding reading
-reading-prefix k text h = ap (λ (F : Form). readingIn F (take k text)) (form-prefix k text h) ∙ in-prefix (textForm text) k text h
+reading-prefix k text h = ap (λ (F : Form). reading_in F (take k text)) (form_prefix k text h) ∙ in_prefix (text_form text) k text h

@@ -1,43 +1,43 @@
 -- What a text reads to: its form, and a refusal or the bytes of a sheet and of a script. Assumes nothing.
 use Rattle.std.specs.Prelude.{ℕ, suc, ◌*◌, ◌≤◌, Bool, cond, ◌||◌, List, [], ◌++◌, ◌≡◌, eqb, ltb, length, drop}
-use Rattle.form.specs.Form.{form_of, frameBytes, mostFrames}
+use Rattle.form.specs.Form.{form_of, frame_bytes, most_frames}
 use Rattle.form.specs.declared.Form.{Form}
 use Rattle.form.specs.declared.Form.TheVariants.{Narrow, Wide}
 use Rattle.sheet.specs.Refusal as Number
-use Rattle.text.specs.Line.{Lines, lines, lineSize, ending}
+use Rattle.text.specs.Line.{Lines, lines, line_size, ending}
 use Rattle.text.specs.declared.Parsed.{Parsed}
 use Rattle.text.specs.declared.layout.Layout.{Layout}
 use Rattle.text.specs.declared.layout.Layout.TheVariants.{Refused, Accepted}
 
 -- the most frames of a script, and the bytes of each, in either form
-abbrev pub scriptFrames : ℕ
-scriptFrames = 1000
+abbrev pub script_frames : ℕ
+script_frames = 1000
 
-abbrev pub scriptFrameBytes : ℕ
-scriptFrameBytes = 4
+abbrev pub script_frame_bytes : ℕ
+script_frame_bytes = 4
 
 -- the least lengths of the buffers, for either form: 3,000 wide frames, and the longest script
-abbrev pub sheetRoom : ℕ
-sheetRoom = 21000
+abbrev pub sheet_room : ℕ
+sheet_room = 21000
 
-abbrev pub scriptRoom : ℕ
-scriptRoom = scriptFrames * scriptFrameBytes
+abbrev pub script_room : ℕ
+script_room = script_frames * script_frame_bytes
 
 -- the refusals' numbers, as they stand for all crates
 abbrev pub malformed : ℕ
-malformed = Number.textShape
+malformed = Number.text_shape
 
-abbrev pub longSheet : ℕ
-longSheet = Number.sheetTooLong
+abbrev pub long_sheet : ℕ
+long_sheet = Number.sheet_too_long
 
-abbrev pub longScript : ℕ
-longScript = Number.scriptTooLong
+abbrev pub long_script : ℕ
+long_script = Number.script_too_long
 
-abbrev pub noRoom : ℕ
-noRoom = Number.noRoom
+abbrev pub no_room : ℕ
+no_room = Number.no_room
 
-abbrev pub otherForm : ℕ
-otherForm = Number.otherForm
+abbrev pub other_form : ℕ
+other_form = Number.other_form
 
 -- the text's form, a refusal's number or 0, and the bytes of the two parts
 pub record Reading : Type 0 where
@@ -53,71 +53,71 @@ abbrev pub accepted : Form → Lines → Lines → Reading
 accepted F sheet script = record { form = F; refusal = 0; sheet = sheet.frames; script = script.frames }
 
 -- a text is wide exactly if it begins with an ended line of fourteen digits
-unfoldable pub beginsWide : List ℕ → Bool
-beginsWide text = ltb 0 (lineSize (frameBytes Wide) text)
+unfoldable pub begins_wide : List ℕ → Bool
+begins_wide text = ltb 0 (line_size (frame_bytes Wide) text)
 
-abbrev pub textForm : List ℕ → Form
-textForm text = form_of (beginsWide text)
+abbrev pub text_form : List ℕ → Form
+text_form text = form_of (begins_wide text)
 
 abbrev pub other : Form → Form
 other Narrow = Wide
 other Wide = Narrow
 
 -- the fault where neither one more line of the sheet nor the empty line stands: an ended line of the other form, or anything else
-unfoldable pub sheetFault : Form → List ℕ → ℕ
-sheetFault F l = cond (ltb 0 (lineSize (frameBytes (other F)) l)) otherForm malformed
+unfoldable pub sheet_fault : Form → List ℕ → ℕ
+sheet_fault F l = cond (ltb 0 (line_size (frame_bytes (other F)) l)) other_form malformed
 
 -- The script's lines, counted to one too many. The line behind them is no line of eight digits: a fault, unless the text ends there
-abbrev pub readScript : Form → Lines → Lines → Reading
-readScript F sheet script =
-    cond (ltb scriptFrames script.count) (refused F longScript)
+abbrev pub read_script : Form → Lines → Lines → Reading
+read_script F sheet script =
+    cond (ltb script_frames script.count) (refused F long_script)
     (cond (ltb 0 (length script.rest)) (refused F malformed) (accepted F sheet script))
 
 -- The sheet's lines, counted to one too many. The line behind them is no line of the form: a fault, told by `fault`, unless it is the empty line
-abbrev pub readSheet : Form → (List ℕ → ℕ) → Lines → Reading
-readSheet F fault sheet =
-    cond (ltb (mostFrames F) sheet.count) (refused F longSheet)
+abbrev pub read_sheet : Form → (List ℕ → ℕ) → Lines → Reading
+read_sheet F fault sheet =
+    cond (ltb (most_frames F) sheet.count) (refused F long_sheet)
     (cond (eqb (ending sheet.rest) 0) (refused F (fault sheet.rest))
-    (readScript F sheet (lines scriptFrameBytes (suc scriptFrames) (drop (ending sheet.rest) sheet.rest))))
+    (read_script F sheet (lines script_frame_bytes (suc script_frames) (drop (ending sheet.rest) sheet.rest))))
 
 -- a text of a form: the sheet's lines, the empty line, the script's lines
-unfoldable pub readingIn : Form → List ℕ → Reading
-readingIn F text = readSheet F (sheetFault F) (lines (frameBytes F) (suc (mostFrames F)) text)
+unfoldable pub reading_in : Form → List ℕ → Reading
+reading_in F text = read_sheet F (sheet_fault F) (lines (frame_bytes F) (suc (most_frames F)) text)
 
 -- a text, by its form
 unfoldable pub reading : List ℕ → Reading
-reading text = readingIn (textForm text) text
+reading text = reading_in (text_form text) text
 
 -- the same into two buffers of these lengths, which come before the text and its form
-unfoldable pub readInto : ℕ → ℕ → List ℕ → Reading
-readInto sheet script text =
-    cond (ltb sheet sheetRoom || ltb script scriptRoom) (refused Narrow noRoom) (reading text)
+unfoldable pub read_into : ℕ → ℕ → List ℕ → Reading
+read_into sheet script text =
+    cond (ltb sheet sheet_room || ltb script script_room) (refused Narrow no_room) (reading text)
 
 -- bytes written from a buffer's start, with what stood behind them
-abbrev pub writtenOver : List ℕ → List ℕ → List ℕ
-writtenOver written buffer = written ++ drop (length written) buffer
+abbrev pub written_over : List ℕ → List ℕ → List ℕ
+written_over written buffer = written ++ drop (length written) buffer
 
 -- where an accepted text of a form has its parts: the lines of the sheet, where the script's lines start, and how many they are
 pub record Parts (F : Form) (text : List ℕ) (sheet start script : ℕ) : Type 0 where
-  pub accepts : readingIn F text ≡ accepted F (lines (frameBytes F) sheet text) (lines scriptFrameBytes script (drop start text))
-  pub sheet-lines : (lines (frameBytes F) sheet text).count ≡ sheet
-  pub script-lines : (lines scriptFrameBytes script (drop start text)).count ≡ script
-  pub sheet-most : sheet ≤ mostFrames F
-  pub script-most : script ≤ scriptFrames
+  pub accepts : reading_in F text ≡ accepted F (lines (frame_bytes F) sheet text) (lines script_frame_bytes script (drop start text))
+  pub sheet-lines : (lines (frame_bytes F) sheet text).count ≡ sheet
+  pub script_lines : (lines script_frame_bytes script (drop start text)).count ≡ script
+  pub sheet-most : sheet ≤ most_frames F
+  pub script_most : script ≤ script_frames
   pub within : start ≤ length text
 
 -- what going through a text of a form finds
 unfoldable pub Scanned : Form → List ℕ → Layout → Type 0
-Scanned F text (Refused n) = readingIn F text ≡ refused F n
+Scanned F text (Refused n) = reading_in F text ≡ refused F n
 Scanned F text (Accepted sheet start script) = Parts F text sheet start script
 
 -- what reading a text leaves: the answer r, and the two buffers, that were sheet and script before
 pub record Read (text sheet script : List ℕ) (r : Parsed) (sheet' script' : List ℕ) : Type 0 where
-  pub form : form_of r.wide ≡ (readInto (length sheet) (length script) text).form
-  pub refusal : r.refusal ≡ (readInto (length sheet) (length script) text).refusal
-  pub sheet-length : r.sheet ≡ length (readInto (length sheet) (length script) text).sheet
-  pub script-length : r.script ≡ length (readInto (length sheet) (length script) text).script
-  pub sheet-bytes : sheet' ≡ writtenOver (readInto (length sheet) (length script) text).sheet sheet
-  pub script-bytes : script' ≡ writtenOver (readInto (length sheet) (length script) text).script script
-  pub sheet-fits : r.sheet ≤ sheetRoom
-  pub script-fits : r.script ≤ scriptRoom
+  pub form : form_of r.wide ≡ (read_into (length sheet) (length script) text).form
+  pub refusal : r.refusal ≡ (read_into (length sheet) (length script) text).refusal
+  pub sheet-length : r.sheet ≡ length (read_into (length sheet) (length script) text).sheet
+  pub script_length : r.script ≡ length (read_into (length sheet) (length script) text).script
+  pub sheet-bytes : sheet' ≡ written_over (read_into (length sheet) (length script) text).sheet sheet
+  pub script_bytes : script' ≡ written_over (read_into (length sheet) (length script) text).script script
+  pub sheet-fits : r.sheet ≤ sheet_room
+  pub script-fits : r.script ≤ script_room

@@ -1,7 +1,7 @@
 // The frames of a text's lines, written as bytes.
 ghost use Rattle.std.specs.Prelude.{◌≡◌, true, ◌+◌, ◌*◌, ◌≤◌, ◌<◌, length, drop};
 ghost use Rattle.std.proofs.lemmas.List.Edits.{sets};
-ghost use Rattle.text.specs.Line.{TwoDigits, byteHere, bytes, digits, lines};
+ghost use Rattle.text.specs.Line.{TwoDigits, byte_here, bytes, digits, lines};
 
 use crate::hex::digit_value;
 use crate::line::{byte_at, line_size};
@@ -9,7 +9,7 @@ use crate::line::{byte_at, line_size};
 // The byte that two digits give.
 fn byte(text: &[u8], at: usize) -> u8
     requires { (at < length text.now) × TwoDigits (drop at text.now) }
-    ensures { result ≡ byteHere (drop at text.now) }
+    ensures { result ≡ byte_here (drop at text.now) }
 {
     digit_value(byte_at(text, at)) * 16 + digit_value(byte_at(text, at + 1))
 }

@@ -1,7 +1,7 @@
 // A text's form, where it has its two parts, and its first fault.
 ghost use Rattle.std.specs.Prelude.{◌≡◌, ◌≤◌, length, drop};
 ghost use Rattle.text.specs.Reading as Spec;
-ghost use Rattle.text.specs.Reading.{beginsWide, Scanned};
+ghost use Rattle.text.specs.Reading.{begins_wide, Scanned};
 
 use crate::line;
 use form::Form;
@@ -26,7 +26,7 @@ pub enum Layout {
 
 // Whether a text is wide: whether it begins with an ended line of fourteen digits.
 pub fn wide(text: &[u8]) -> bool
-    ensures { result ≡ beginsWide text.now }
+    ensures { result ≡ begins_wide text.now }
 {
     0 < line::line_size(text, 0, form::frame_bytes(Form::Wide))
 }
@@ -43,7 +43,7 @@ fn other(form: Form) -> Form
 // What is told where neither one more line of the sheet nor the empty line stands.
 fn sheet_fault(text: &[u8], at: usize, form: Form) -> u8
     requires { at ≤ length text.now }
-    ensures { result ≡ Spec.sheetFault form (drop at text.now) }
+    ensures { result ≡ Spec.sheet_fault form (drop at text.now) }
 {
     if 0 < line::line_size(text, at, form::frame_bytes(other(form))) {
         return refusal::OTHER_FORM;

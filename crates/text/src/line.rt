@@ -1,7 +1,7 @@
 // The lines of a text: where they end, and how many stand in a row. What ends a line is told by `ending` alone. A line has two digits for each byte of
 // its frame, and `size` is the number of these bytes.
 ghost use Rattle.std.specs.Prelude.{◌≡◌, ◌+◌, ◌≤◌, ◌<◌, length, drop};
-ghost use Rattle.text.specs.Line.{head, ending, digits, lineSize, LinesAt};
+ghost use Rattle.text.specs.Line.{head, ending, digits, line_size, LinesAt};
 
 use crate::hex::digit_value;
 
@@ -59,7 +59,7 @@ fn digits(text: &[u8], from: usize, count: usize) -> bool
 // How many bytes the line at a place takes, 0 where it is not the digits of `size` bytes and a line's end.
 pub fn line_size(text: &[u8], at: usize, size: usize) -> usize
     requires { (at ≤ length text.now) × (size ≤ 16) }
-    ensures { result ≡ lineSize size (drop at text.now) }
+    ensures { result ≡ line_size size (drop at text.now) }
 {
     let count = 2 * size;
     if !digits(text, at, count) {

@@ -1,8 +1,8 @@
 // The program: a text of either form from standard input, and the lines of its sheet's normal sheet to standard output.
 ghost use Rattle.std.specs.Prelude.{◌≤◌, length};
 ghost use Rattle.form.specs.Form.{form_of};
-ghost use Rattle.sheet.specs.Fields.{sheetOf, narrow, wide};
-ghost use Rattle.to_normal.specs.Printed.{refusalLine, printedSheet, printed, Begins};
+ghost use Rattle.sheet.specs.Fields.{sheet_of, narrow, wide};
+ghost use Rattle.to_normal.specs.Printed.{refusal_line, printed_sheet, printed, Begins};
 
 use form::Form;
 use libc::{STDERR_FILENO, STDIN_FILENO, STDOUT_FILENO};
@@ -21,7 +21,7 @@ const LINES_BYTES: usize = 45000;
 // Writes the line of a refusal, which has as many bytes as an answer.
 fn refuse(number: u8, place: u8, out: &mut [u8]) -> usize
     requires { 45000 ≤ length out.old }
-    ensures { Begins (refusalLine Form.Narrow number place) out.new result }
+    ensures { Begins (refusal_line Form.Narrow number place) out.new result }
 {
     let answer = [number, place, 0, 0, 0, 0];
     text::answer_lines(&answer, out)
@@ -29,7 +29,7 @@ fn refuse(number: u8, place: u8, out: &mut [u8]) -> usize
 
 fn refuse_wide(number: u8, place: u16, out: &mut [u8]) -> usize
     requires { 45000 ≤ length out.old }
-    ensures { Begins (refusalLine Form.Wide number place) out.new result }
+    ensures { Begins (refusal_line Form.Wide number place) out.new result }
 {
     let high = (place / 256) as u8;
     let low = (place % 256) as u8;
@@ -40,7 +40,7 @@ fn refuse_wide(number: u8, place: u16, out: &mut [u8]) -> usize
 // Writes the line of a text that is refused: its place is 0.
 fn refuse_text(form: Form, number: u8, out: &mut [u8]) -> usize
     requires { 45000 ≤ length out.old }
-    ensures { Begins (refusalLine form number 0) out.new result }
+    ensures { Begins (refusal_line form number 0) out.new result }
 {
     match form {
         Form::Narrow => refuse(number, 0, out),
@@ -51,7 +51,7 @@ fn refuse_text(form: Form, number: u8, out: &mut [u8]) -> usize
 // Writes the lines of a narrow sheet's normal sheet, or the sheet's refusal.
 fn print_narrow(sheet: &[u8], out: &mut [u8]) -> usize
     requires { 45000 ≤ length out.old }
-    ensures { Begins (printedSheet (narrow sheet.now)) out.new result }
+    ensures { Begins (printed_sheet (narrow sheet.now)) out.new result }
 {
     let mut frames = [0u8; NORMAL_BYTES];
     let written = normal::write(sheet, &mut frames);
@@ -66,7 +66,7 @@ fn print_narrow(sheet: &[u8], out: &mut [u8]) -> usize
 // The same of a wide one.
 fn print_wide(sheet: &[u8], out: &mut [u8]) -> usize
     requires { 45000 ≤ length out.old }
-    ensures { Begins (printedSheet (wide sheet.now)) out.new result }
+    ensures { Begins (printed_sheet (wide sheet.now)) out.new result }
 {
     let mut frames = [0u8; WIDE_NORMAL_BYTES];
     let written = normal::write_wide(sheet, &mut frames);
@@ -79,7 +79,7 @@ fn print_wide(sheet: &[u8], out: &mut [u8]) -> usize
 
 fn print_sheet(form: Form, sheet: &[u8], out: &mut [u8]) -> usize
     requires { 45000 ≤ length out.old }
-    ensures { Begins (printedSheet (sheetOf form sheet.now)) out.new result }
+    ensures { Begins (printed_sheet (sheet_of form sheet.now)) out.new result }
 {
     match form {
         Form::Narrow => print_narrow(sheet, out),

@@ -1,6 +1,6 @@
 // The program: a text with a narrow sheet from standard input, and the same text with its sheet widened to standard output.
 ghost use Rattle.std.specs.Prelude.{List, ℕ, ◌≤◌, length};
-ghost use Rattle.to_wide.specs.Converted.{refusalOutput, convertedSheet, converted, Prints};
+ghost use Rattle.to_wide.specs.Converted.{refusal_output, converted_sheet, converted, Prints};
 
 use libc::{STDERR_FILENO, STDIN_FILENO, STDOUT_FILENO};
 use sheet::refusal;
@@ -27,7 +27,7 @@ struct Printed {
 // Writes a refusal's line.
 fn refuse(number: u8, place: u8, first: &mut [u8]) -> Printed
     requires { 3000 ≤ length first.old }
-    ensures { (second : List ℕ) → Prints (refusalOutput number place) first.new second result.refused result.first result.second }
+    ensures { (second : List ℕ) → Prints (refusal_output number place) first.new second result.refused result.first result.second }
 {
     let answer = [number, place, 0, 0, 0, 0];
     let written = text::answer_lines(&answer, first);
@@ -41,7 +41,7 @@ fn refuse(number: u8, place: u8, first: &mut [u8]) -> Printed
 // Writes the lines of a narrow sheet widened, and those of a script.
 fn convert_sheet(sheet: &[u8], script: &[u8], first: &mut [u8], second: &mut [u8]) -> Printed
     requires { (3000 ≤ length first.old) × (9000 ≤ length second.old) × (length script.now ≤ 4000) }
-    ensures { Prints (convertedSheet sheet.now script.now) first.new second.new result.refused result.first result.second }
+    ensures { Prints (converted_sheet sheet.now script.now) first.new second.new result.refused result.first result.second }
 {
     let mut wide = [0u8; WIDE_SHEET_BYTES];
     let widened = widen::widen(sheet, &mut wide);

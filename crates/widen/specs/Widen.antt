@@ -1,31 +1,31 @@
 -- A narrow sheet widened (document 02, N14): its bytes, what it is refused for, and the contract of `widen` for all inputs. Assumes nothing.
 use Rattle.std.specs.Prelude.{ℕ, zero, suc, ◌+◌, ◌<◌, ◌≡◌, List, [], ◌∷◌, ◌++◌, length, drop, ltb}
-use Rattle.form.specs.Form.{frameStart}
+use Rattle.form.specs.Form.{frame_start}
 use Rattle.form.specs.declared.Form.TheVariants.{Narrow, Wide}
 use Rattle.sheet.specs.declared.Fields.{Fields}
 use Rattle.sheet.specs.Refusal as Number
 use Rattle.sheet.specs.Cause.{Cause, Refusal, first}
 use Rattle.sheet.specs.Fields.{narrow, frames, laid}
-use Rattle.sheet.specs.Rules.{cause, sheetCauses}
+use Rattle.sheet.specs.Rules.{cause, sheet_causes}
 
 -- the bytes of a wide frame with these fields, each below 256
-abbrev pub wideBytes : Fields → List ℕ
-wideBytes f = f.k ∷ 0 ∷ f.a ∷ 0 ∷ f.b ∷ 0 ∷ f.c ∷ []
+abbrev pub wide_bytes : Fields → List ℕ
+wide_bytes f = f.k ∷ 0 ∷ f.a ∷ 0 ∷ f.b ∷ 0 ∷ f.c ∷ []
 
 -- the first k frames of s widened, each field with its number
-unfoldable pub widenedTo : List ℕ → ℕ → List ℕ
-widenedTo s zero = []
-widenedTo s (suc k) = widenedTo s k ++ wideBytes (laid Narrow s k)
+unfoldable pub widened_to : List ℕ → ℕ → List ℕ
+widened_to s zero = []
+widened_to s (suc k) = widened_to s k ++ wide_bytes (laid Narrow s k)
 
 abbrev pub widened : List ℕ → List ℕ
-widened s = widenedTo s (frames (narrow s))
+widened s = widened_to s (frames (narrow s))
 
 -- the sheet's own causes, and then a buffer of so many bytes that is under seven bytes a frame
-unfoldable pub widenCauses : List ℕ → ℕ → List Cause
-widenCauses s bytes = sheetCauses (narrow s) ++ (cause (ltb bytes (frameStart Wide (frames (narrow s)))) Number.wideNoRoom 0 ∷ [])
+unfoldable pub widen_causes : List ℕ → ℕ → List Cause
+widen_causes s bytes = sheet_causes (narrow s) ++ (cause (ltb bytes (frame_start Wide (frames (narrow s)))) Number.wide_no_room 0 ∷ [])
 
 abbrev pub refusal : List ℕ → ℕ → Refusal
-refusal s bytes = first (widenCauses s bytes)
+refusal s bytes = first (widen_causes s bytes)
 
 -- What `widen` tells and leaves in the buffer, for every sheet s and buffer: at entry and, primed, at exit.
 pub record Widens (s out out' : List ℕ) (number place size : ℕ) : Type 0 where

@@ -1,9 +1,9 @@
 // A narrow sheet as a wide one, frame by frame: each field keeps its number.
 ghost use Rattle.std.specs.Prelude.{◌≡◌, [], ◌∷◌, ◌+◌, ◌*◌, ◌<◌, ◌≤◌, length};
 ghost use Rattle.std.proofs.lemmas.List.Edits.{sets};
-ghost use Rattle.form.specs.Form.{frameStart};
+ghost use Rattle.form.specs.Form.{frame_start};
 ghost use Rattle.sheet.specs.Fields.{narrow, frames, laid};
-ghost use Rattle.widen.specs.Widen.{wideBytes, widened, Widens};
+ghost use Rattle.widen.specs.Widen.{wide_bytes, widened, Widens};
 
 use form::Form;
 use sheet::refusal;
@@ -33,7 +33,7 @@ fn put_frame(out: &mut [u8], at: usize, k: u8, a: u8, b: u8, c: u8)
 // Frame k of the sheet at its place among wide ones.
 fn widen_frame(sheet: &[u8], out: &mut [u8], k: usize)
     requires { (k < frames (narrow sheet.now)) × (k * 7 + 7 ≤ length out.old) }
-    ensures { out.new ≡ sets out.old (k * 7) (wideBytes (laid Form.Narrow sheet.now k)) }
+    ensures { out.new ≡ sets out.old (k * 7) (wide_bytes (laid Form.Narrow sheet.now k)) }
 {
     let p = k * 4;
     put_frame(
@@ -48,7 +48,7 @@ fn widen_frame(sheet: &[u8], out: &mut [u8], k: usize)
 
 // Every frame.
 fn widen_frames(sheet: &[u8], out: &mut [u8])
-    requires { frameStart Form.Wide (frames (narrow sheet.now)) ≤ length out.old }
+    requires { frame_start Form.Wide (frames (narrow sheet.now)) ≤ length out.old }
     ensures { out.new ≡ sets out.old 0 (widened sheet.now) }
 {
     let n = sheet.len() / 4;

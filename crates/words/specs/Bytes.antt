@@ -15,8 +15,8 @@ four_bytes w =
     ap (λ (x : ℕ). w / 2 ^ 24 % 256 ∷ w / 2 ^ 16 % 256 ∷ w / 2 ^ 8 % 256 ∷ x % 256 ∷ []) one
 
 -- and eight
-pub eight-bytes : (w : ℕ) → bytes_of 8 w
+pub eight_bytes : (w : ℕ) → bytes_of 8 w
     ≡ w / 2 ^ 56 % 256 ∷ w / 2 ^ 48 % 256 ∷ w / 2 ^ 40 % 256 ∷ w / 2 ^ 32 % 256 ∷ w / 2 ^ 24 % 256 ∷ w / 2 ^ 16 % 256 ∷ w / 2 ^ 8 % 256 ∷ w % 256 ∷ []
 unfolding bytes_of
-eight-bytes w =
+eight_bytes w =
     ap (λ (l : List ℕ). w / 2 ^ 56 % 256 ∷ w / 2 ^ 48 % 256 ∷ w / 2 ^ 40 % 256 ∷ w / 2 ^ 32 % 256 ∷ l) (four_bytes w)

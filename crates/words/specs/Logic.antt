@@ -48,5 +48,5 @@ pub not-not : (a : Bool) → not (not a) ≡ a
 not-not true = refl
 not-not false = refl
 
-pub not-flip : (a b : Bool) → not a ≡ b → a ≡ not b
-not-flip a b e = sym (not-not a) ∙ ap not e
+pub not_flip : (a b : Bool) → not a ≡ b → a ≡ not b
+not_flip a b e = sym (not-not a) ∙ ap not e

@@ -7,7 +7,7 @@ use Rattle.std.proofs.lemmas.Nat.{leading_top, and_le_r, and_comm, or_disjoint, 
 use Rattle.std.proofs.Math.Pow.{pow-lt, ones_lt, ones_split, high}
 use Rattle.std.specs.Int.Bits.{bit_and, bit_or, bit_xor, and_self, and_zero_l, and_zero_r, xor_add_and, or_zero_r}
 use Rattle.words.specs.Logic.{by_bool, clash, and_both, or_cases, or_left, or_right, tests}
-use Rattle.words.specs.Word.{bit, xorb, bit-and, bit-or, bit-xor, bit_high, bit-none, bit-pow, bit_not, bit-range, ext, ext-below}
+use Rattle.words.specs.Word.{bit, xorb, bit-and, bit-or, bit-xor, bit_high, bit-none, bit-pow, bit_not, bit-range, ext, ext_below}
 
 -- every place of y is one of f; no place of a is one of b
 pub record Sub (y f : ℕ) : Type 0 where
@@ -20,15 +20,15 @@ pub record Apart (a b : ℕ) : Type 0 where
 unfoldable pub without : ℕ → ℕ → ℕ
 without m o = bit_xor m (bit_and m o)
 
-xor-and : (p q : Bool) → xorb p (p && q) ≡ p && not q
-xor-and true true = refl
-xor-and true false = refl
-xor-and false true = refl
-xor-and false false = refl
+xor_and : (p q : Bool) → xorb p (p && q) ≡ p && not q
+xor_and true true = refl
+xor_and true false = refl
+xor_and false true = refl
+xor_and false false = refl
 
 pub bit-without : (m o k : ℕ) → bit (without m o) k ≡ bit m k && not (bit o k)
 unfolding without
-bit-without m o k = simp (bit-xor, bit-and) (xor-and (bit m k) (bit o k))
+bit-without m o k = simp (bit-xor, bit-and) (xor_and (bit m k) (bit o k))
 
 -- ---- by bits
 
@@ -43,15 +43,15 @@ and_left : (p q : Bool) → (p && q) ≡ p → p ≡ true → q ≡ true
 and_left true q e t = e
 and_left false q e t = cc
 
-pub bits-sub : {y f : ℕ} → Sub y f → (k : ℕ) → bit y k ≡ true → bit f k ≡ true
-bits-sub {y} {f} s k t = and_left (bit y k) (bit f k) (sym (bit-and y f k) ∙ ap (λ (x : ℕ). bit x k) s.inside) t
+pub bits_sub : {y f : ℕ} → Sub y f → (k : ℕ) → bit y k ≡ true → bit f k ≡ true
+bits_sub {y} {f} s k t = and_left (bit y k) (bit f k) (sym (bit-and y f k) ∙ ap (λ (x : ℕ). bit x k) s.inside) t
 
 and_none : (p q : Bool) → (p && q) ≡ false → p ≡ true → q ≡ false
 and_none true q e t = e
 and_none false q e t = cc
 
-pub bits-apart : {a b : ℕ} → Apart a b → (k : ℕ) → bit a k ≡ true → bit b k ≡ false
-bits-apart {a} {b} s k t = and_none (bit a k) (bit b k) (sym (bit-and a b k) ∙ ap (λ (x : ℕ). bit x k) s.none ∙ bit-none k) t
+pub bits_apart : {a b : ℕ} → Apart a b → (k : ℕ) → bit a k ≡ true → bit b k ≡ false
+bits_apart {a} {b} s k t = and_none (bit a k) (bit b k) (sym (bit-and a b k) ∙ ap (λ (x : ℕ). bit x k) s.none ∙ bit-none k) t
 
 pub apart-bits : (a b : ℕ) → ((k : ℕ) → bit a k ≡ true → bit b k ≡ false) → Apart a b
 apart-bits a b h = record { none = ext (bit_and a b) zero (λ k. bit-and a b k ∙ go (bit a k) (bit b k) (h k) ∙ sym (bit-none k)) }
@@ -107,7 +107,7 @@ and-not n m o hm ho =
 -- ---- sums and orders
 
 pub apart-sub : {w f y : ℕ} → Apart w f → Sub y f → Apart w y
-apart-sub {w} {f} {y} a s = apart-bits w y (λ k t. by_bool (bit y k) (λ e. clash (bit f k) (bits-sub s k e) (bits-apart a k t)) (λ e. e))
+apart-sub {w} {f} {y} a s = apart-bits w y (λ k t. by_bool (bit y k) (λ e. clash (bit f k) (bits_sub s k e) (bits_apart a k t)) (λ e. e))
 
 pub or-sum : {w y : ℕ} → Apart w y → bit_or w y ≡ w + y
 or-sum {w} {y} a = or_disjoint w y a.none
@@ -134,8 +134,8 @@ top_bit {f} {j} t =
     whole = omega (arith, t.reach)
 
 -- what is left of f without its highest place is below it
-pub top-rest : {f j : ℕ} → Top f j → (without f (2 ^ j) < 2 ^ j) × (without f (2 ^ j) + 2 ^ j ≡ f)
-top-rest {f} {j} t =
+pub top_rest : {f j : ℕ} → Top f j → (without f (2 ^ j) < 2 ^ j) × (without f (2 ^ j) + 2 ^ j ≡ f)
+top_rest {f} {j} t =
     let e : bit_and f (2 ^ j) ≡ 2 ^ j = ext (bit_and f (2 ^ j)) (2 ^ j) (λ k. bit-and f (2 ^ j) k ∙ rest k) in
     (omega (arith, without-sum f (2 ^ j), pow-suc 2 j), omega (arith, without-sum f (2 ^ j)))
   where
@@ -147,8 +147,8 @@ top-rest {f} {j} t =
     rest k = ap (λ (p : Bool). bit f k && p) (bit-pow j k) ∙ go k (eqb k j) refl ∙ sym (bit-pow j k)
 
 -- and so smaller
-pub top-less : {f x p rest : ℕ} → Top f x → p ≡ 2 ^ x → rest ≡ without f p → rest < f
-top-less T ep er = rw (er, ep) (omega (arith, (top-rest T).0, (top-rest T).1))
+pub top_less : {f x p rest : ℕ} → Top f x → p ≡ 2 ^ x → rest ≡ without f p → rest < f
+top_less T ep er = rw (er, ep) (omega (arith, (top_rest T).0, (top_rest T).1))
 
 -- ---- the machine's shifts, at n bits
 
@@ -165,8 +165,8 @@ ones_shr n c h =
     whole = omega arith
 
 -- and moved up to b
-pub range-shl : (n b c : ℕ) → b + c ≤ n → ((2 ^ c - 1) * 2 ^ b) % 2 ^ n ≡ (2 ^ c - 1) * 2 ^ b
-range-shl n b c h = shl_exact {a = 2 ^ c - 1} c b n (ones_lt c) (omega arith)
+pub range_shl : (n b c : ℕ) → b + c ≤ n → ((2 ^ c - 1) * 2 ^ b) % 2 ^ n ≡ (2 ^ c - 1) * 2 ^ b
+range_shl n b c h = shl_exact {a = 2 ^ c - 1} c b n (ones_lt c) (omega arith)
 
 -- ---- a test of one place
 
@@ -183,12 +183,12 @@ and_one w v = go (bit w v) refl
 
 -- ---- a run of places, and the highest place, as the machine finds them
 
-unfoldable pub rangeMask : ℕ → ℕ → ℕ
-rangeMask b c = (2 ^ c - 1) * 2 ^ b
+unfoldable pub range_mask : ℕ → ℕ → ℕ
+range_mask b c = (2 ^ c - 1) * 2 ^ b
 
-pub bit-rangeMask : (b c k : ℕ) → bit (rangeMask b c) k ≡ leb b k && ltb k (b + c)
-unfolding rangeMask
-bit-rangeMask b c k = bit-range b c k ∙ go (leb b k) refl
+pub bit-range_mask : (b c k : ℕ) → bit (range_mask b c) k ≡ leb b k && ltb k (b + c)
+unfolding range_mask
+bit-range_mask b c k = bit-range b c k ∙ go (leb b k) refl
   where
     same : (t : Bool) → ltb (k - b) c ≡ t → b ≤ k → t ≡ ltb k (b + c)
     same true e l = sym (lt-ltb k (b + c) (omega (arith, ltb-true (k - b) c e)))
@@ -199,16 +199,16 @@ bit-rangeMask b c k = bit-range b c k ∙ go (leb b k) refl
     go false e = refl
 
 -- `(2 ^ n - 1 >> n - c) << b`
-pub range-shifts : (n b c : ℕ) → b + c ≤ n → ((2 ^ n - 1) / 2 ^ (n - c) * 2 ^ b) % 2 ^ n ≡ rangeMask b c
-unfolding rangeMask
-range-shifts n b c h = ap (λ (x : ℕ). (x * 2 ^ b) % 2 ^ n) (ones_shr n c (omega arith)) ∙ range-shl n b c h
+pub range_shifts : (n b c : ℕ) → b + c ≤ n → ((2 ^ n - 1) / 2 ^ (n - c) * 2 ^ b) % 2 ^ n ≡ range_mask b c
+unfolding range_mask
+range_shifts n b c h = ap (λ (x : ℕ). (x * 2 ^ b) % 2 ^ n) (ones_shr n c (omega arith)) ∙ range_shl n b c h
 
-pub range_none : (b : ℕ) → rangeMask b zero ≡ zero
-unfolding rangeMask
+pub range_none : (b : ℕ) → range_mask b zero ≡ zero
+unfolding range_mask
 range_none b = zero-mul (2 ^ b)
 
-pub range-lt : (n b c : ℕ) → b + c ≤ n → rangeMask b c < 2 ^ n
-unfolding rangeMask
+pub range-lt : (n b c : ℕ) → b + c ≤ n → range_mask b c < 2 ^ n
+unfolding range_mask
 range-lt n b c h = lt_of_lt_of_le (shl_lt c b (ones_lt c)) (pow_mono (omega arith))
 
 pub top_of : (n f : ℕ) → zero < f → f < 2 ^ n → Top f (n - 1 - count_leading_zeros n f) × (count_leading_zeros n f < n)
@@ -228,9 +228,9 @@ and3 true q r i = ap (λ (x : Bool). not r && (x && not r)) (i refl) ∙ twice r
 and3 false q r i = refl
 
 -- what is inside stays inside without the same places
-pub without-mono : {y f : ℕ} (o : ℕ) → Sub y f → Sub (without y o) (without f o)
-without-mono {y} {f} o s =
-    record { inside = ext (bit_and (without y o) (without f o)) (without y o) (λ k. simp (bit-and, bit-without) (and3 (bit y k) (bit f k) (bit o k) (bits-sub s k))) }
+pub without_mono : {y f : ℕ} (o : ℕ) → Sub y f → Sub (without y o) (without f o)
+without_mono {y} {f} o s =
+    record { inside = ext (bit_and (without y o) (without f o)) (without y o) (λ k. simp (bit-and, bit-without) (and3 (bit y k) (bit f k) (bit o k) (bits_sub s k))) }
 
 -- y without a place that it does not have is y
 pub without-none : (y v : ℕ) → bit y v ≡ false → without y (2 ^ v) ≡ y
@@ -245,8 +245,8 @@ pub sub-split : {y f : ℕ} (v : ℕ) → Sub y f → Sub y (without f (2 ^ v)) 
 sub-split {y} {f} v s = go (bit y v) refl
   where
     go : (p : Bool) → bit y v ≡ p → Sub y (without f (2 ^ v)) ⊎ ((z : ℕ) × Sub z (without f (2 ^ v)) × (y ≡ z + 2 ^ v))
-    go true h = inr (without y (2 ^ v), without-mono (2 ^ v) s, sym (without-one y v h))
-    go false h = inl (subst (λ (x : ℕ). Sub x (without f (2 ^ v))) (without-none y v h) (without-mono (2 ^ v) s))
+    go true h = inr (without y (2 ^ v), without_mono (2 ^ v) s, sym (without-one y v h))
+    go false h = inl (subst (λ (x : ℕ). Sub x (without f (2 ^ v))) (without-none y v h) (without_mono (2 ^ v) s))
 
 -- ---- one place set to a value
 
@@ -275,13 +275,13 @@ bit-put w v false k = simp (bit-without, bit-pow) (go (bit w k) (eqb k v))
 -- ---- more of inside and apart
 
 pub sub_trans : {x y z : ℕ} → Sub x y → Sub y z → Sub x z
-sub_trans {x} {y} {z} a b = sub-bits x z (λ k t. bits-sub b k (bits-sub a k t))
+sub_trans {x} {y} {z} a b = sub-bits x z (λ k t. bits_sub b k (bits_sub a k t))
 
 pub one-sub : {f : ℕ} (x : ℕ) → bit f x ≡ true → Sub (2 ^ x) f
 one-sub {f} x h = sub-bits (2 ^ x) f (λ k t. ap (λ (j : ℕ). bit f j) (eqb-true k x (sym (bit-pow x k) ∙ t)) ∙ h)
 
 pub or-sub : {a b f : ℕ} → Sub a f → Sub b f → Sub (bit_or a b) f
-or-sub {a} {b} {f} s t = sub-bits (bit_or a b) f (λ k e. or_cases (bit a k) (bit b k) (sym (bit-or a b k) ∙ e) (bits-sub s k) (bits-sub t k))
+or-sub {a} {b} {f} s t = sub-bits (bit_or a b) f (λ k e. or_cases (bit a k) (bit b k) (sym (bit-or a b k) ∙ e) (bits_sub s k) (bits_sub t k))
 
 pub apart-sym : {a b : ℕ} → Apart a b → Apart b a
 apart-sym {a} {b} h = record { none = and_comm b a ∙ h.none }
@@ -293,7 +293,7 @@ add-one-sub {z} {f} x h s =
     (or-sub (sub_trans s (without_sub f (2 ^ x))) (one-sub x h))
 
 pub or_apart : {a b f : ℕ} → Apart a f → Apart b f → Apart (bit_or a b) f
-or_apart {a} {b} {f} s t = apart-bits (bit_or a b) f (λ k e. or_cases (bit a k) (bit b k) (sym (bit-or a b k) ∙ e) (bits-apart s k) (bits-apart t k))
+or_apart {a} {b} {f} s t = apart-bits (bit_or a b) f (λ k e. or_cases (bit a k) (bit b k) (sym (bit-or a b k) ∙ e) (bits_apart s k) (bits_apart t k))
 
 -- a word that has not the place yet gets it, or stays
 pub put-more : (w v : ℕ) (b : Bool) → bit w v ≡ false → put w v b ≡ bit_or w (cond b (2 ^ v) 0)
@@ -347,7 +347,7 @@ placed-sub {w} {m} n v b t i s =
   where
     go : (x : Bool) (k : ℕ) → cond x b (bit w k) ≡ true → cond x t (bit m k) ≡ true
     go true k e = i e
-    go false k e = bits-sub s k e
+    go false k e = bits_sub s k e
 
 -- it stays a word of n places
 pub placed-lt : (n w v : ℕ) (b : Bool) → w < 2 ^ n → placed n w v b < 2 ^ n
@@ -383,8 +383,8 @@ pub sub-lt : {y f : ℕ} (n : ℕ) → Sub y f → f < 2 ^ n → y < 2 ^ n
 sub-lt n s h = lt_of_le_of_lt (sub-le s) h
 
 -- each is inside the other: equal
-pub sub-antisym : {a b : ℕ} → Sub a b → Sub b a → a ≡ b
-sub-antisym {a} {b} s t = sym s.inside ∙ and_comm a b ∙ t.inside
+pub sub_antisym : {a b : ℕ} → Sub a b → Sub b a → a ≡ b
+sub_antisym {a} {b} s t = sym s.inside ∙ and_comm a b ∙ t.inside
 
 pub and-sub-left : (a b : ℕ) → Sub (bit_and a b) a
 and-sub-left a b = sub-bits (bit_and a b) a (λ k e. (and_both (bit a k) (bit b k) (sym (bit-and a b k) ∙ e)).0)
@@ -393,7 +393,7 @@ pub and-sub : (a b : ℕ) → Sub (bit_and a b) b
 and-sub a b = sub-bits (bit_and a b) b (λ k e. (and_both (bit a k) (bit b k) (sym (bit-and a b k) ∙ e)).1)
 
 pub sub-and : {y a b : ℕ} → Sub y a → Sub y b → Sub y (bit_and a b)
-sub-and {y} {a} {b} s t = sub-bits y (bit_and a b) (λ k e. rw (bit-and, bits-sub s k e, bits-sub t k e))
+sub-and {y} {a} {b} s t = sub-bits y (bit_and a b) (λ k e. rw (bit-and, bits_sub s k e, bits_sub t k e))
 
 pub sub-or-left : (a b : ℕ) → Sub a (bit_or a b)
 sub-or-left a b = sub-bits a (bit_or a b) (λ k e. bit-or a b k ∙ or_left (bit a k) (bit b k) e)
@@ -403,7 +403,7 @@ sub-or-right a b = sub-bits b (bit_or a b) (λ k e. bit-or a b k ∙ or_right (b
 
 -- what is inside a and apart from b is inside a without b
 pub sub-without : {y a b : ℕ} → Sub y a → Apart y b → Sub y (without a b)
-sub-without {y} {a} {b} s t = sub-bits y (without a b) (λ k e. rw (bit-without, bits-sub s k e, bits-apart t k e))
+sub-without {y} {a} {b} s t = sub-bits y (without a b) (λ k e. rw (bit-without, bits_sub s k e, bits_apart t k e))
 
 -- ---- the word of n places whose bits are p
 
@@ -411,10 +411,10 @@ unfoldable pub mask_of : ℕ → (ℕ → Bool) → ℕ
 mask_of zero p = 0
 mask_of (suc n) p = mask_of n p + cond (p n) (2 ^ n) 0
 
-pub maskOf-lt : (n : ℕ) (p : ℕ → Bool) → mask_of n p < 2 ^ n
+pub mask_of-lt : (n : ℕ) (p : ℕ → Bool) → mask_of n p < 2 ^ n
 unfolding mask_of
-maskOf-lt zero p = pow_pos zero
-maskOf-lt (suc n) p = by_bool (p n) (λ e. rw e (omega (arith, maskOf-lt n p, pow-suc 2 n))) (λ e. rw e (omega (arith, maskOf-lt n p, pow-suc 2 n)))
+mask_of-lt zero p = pow_pos zero
+mask_of-lt (suc n) p = by_bool (p n) (λ e. rw e (omega (arith, mask_of-lt n p, pow-suc 2 n))) (λ e. rw e (omega (arith, mask_of-lt n p, pow-suc 2 n)))
 
 -- a place past the last, by a sum
 pub put-sum : {w : ℕ} (n : ℕ) (b : Bool) → w < 2 ^ n → w + cond b (2 ^ n) 0 ≡ put w n b
@@ -422,26 +422,26 @@ unfolding put
 put-sum {w} n true h = sym (or-sum (apart-sym (apart-bits (2 ^ n) w (λ k e. bit_high n k h (omega (tests, sym (bit-pow n k) ∙ e))))))
 put-sum {w} n false h = omega (arith, without-none w n (bit_high n n h (omega arith)))
 
-pub bit-maskOf : (n : ℕ) (p : ℕ → Bool) (k : ℕ) → bit (mask_of n p) k ≡ ltb k n && p k
+pub bit-mask_of : (n : ℕ) (p : ℕ → Bool) (k : ℕ) → bit (mask_of n p) k ≡ ltb k n && p k
 unfolding mask_of
-bit-maskOf zero p k = bit-none k ∙ sym (ap (λ (t : Bool). t && p k) (le-ltb k zero (omega arith)))
-bit-maskOf (suc n) p k =
-    ap (λ (x : ℕ). bit x k) (put-sum n (p n) (maskOf-lt n p)) ∙ bit-put (mask_of n p) n (p n) k
+bit-mask_of zero p k = bit-none k ∙ sym (ap (λ (t : Bool). t && p k) (le-ltb k zero (omega arith)))
+bit-mask_of (suc n) p k =
+    ap (λ (x : ℕ). bit x k) (put-sum n (p n) (mask_of-lt n p)) ∙ bit-put (mask_of n p) n (p n) k
     ∙ by_bool (eqb k n)
     (λ e. rw (e, lt-ltb k (suc n) (omega tests), eqb-true k n e))
-    (λ e. rw (e, bit-maskOf n p k) (by_bool (ltb k n)
+    (λ e. rw (e, bit-mask_of n p k) (by_bool (ltb k n)
     (λ h. rw (h, lt-ltb k (suc n) (omega tests)))
     (λ h. rw (h, le-ltb k (suc n) (omega tests)))))
 
 -- it depends on p below n only
-pub maskOf-same : (n : ℕ) (p q : ℕ → Bool) → ((k : ℕ) → k < n → p k ≡ q k) → mask_of n p ≡ mask_of n q
+pub mask_of-same : (n : ℕ) (p q : ℕ → Bool) → ((k : ℕ) → k < n → p k ≡ q k) → mask_of n p ≡ mask_of n q
 unfolding mask_of
-maskOf-same zero p q h = refl
-maskOf-same (suc n) p q h = ap₂ (λ (x : ℕ) (t : Bool). x + cond t (2 ^ n) 0) (maskOf-same n p q (λ k l. h k (omega arith))) (h n (omega arith))
+mask_of-same zero p q h = refl
+mask_of-same (suc n) p q h = ap₂ (λ (x : ℕ) (t : Bool). x + cond t (2 ^ n) 0) (mask_of-same n p q (λ k l. h k (omega arith))) (h n (omega arith))
 
 -- a word of n places is that of its own bits
-pub maskOf-bit : (n w : ℕ) → w < 2 ^ n → mask_of n (bit w) ≡ w
-maskOf-bit n w h = ext-below n (mask_of n (bit w)) w (maskOf-lt n (bit w)) h (λ k l. bit-maskOf n (bit w) k ∙ rw (lt-ltb k n l))
+pub mask_of-bit : (n w : ℕ) → w < 2 ^ n → mask_of n (bit w) ≡ w
+mask_of-bit n w h = ext_below n (mask_of n (bit w)) w (mask_of-lt n (bit w)) h (λ k l. bit-mask_of n (bit w) k ∙ rw (lt-ltb k n l))
 
 -- ---- a setting s against the values w at the places of m
 
@@ -474,18 +474,18 @@ pub agree-bits : (m w s : ℕ) → agree m w s ≡ true → Agree m w s
 unfolding agree
 agree-bits m w s e = same-and m s w (eqb-true (bit_and s m) w e ∙ sym (agree-sub m w s e).inside)
 
-pub bits-agree : (m w s : ℕ) → Sub w m → Agree m w s → agree m w s ≡ true
+pub bits_agree : (m w s : ℕ) → Sub w m → Agree m w s → agree m w s ≡ true
 unfolding agree
-bits-agree m w s h a = eq-eqb (bit_and s m) w (and_same m s w a ∙ h.inside)
+bits_agree m w s h a = eq-eqb (bit_and s m) w (and_same m s w a ∙ h.inside)
 
 -- agreement with a word's values in the mask
 pub masked-bits : (m w s : ℕ) → agree m (bit_and w m) s ≡ true → Agree m w s
 unfolding agree
 masked-bits m w s e = same-and m s w (eqb-true (bit_and s m) (bit_and w m) e)
 
-pub bits-masked : (m w s : ℕ) → Agree m w s → agree m (bit_and w m) s ≡ true
+pub bits_masked : (m w s : ℕ) → Agree m w s → agree m (bit_and w m) s ≡ true
 unfolding agree
-bits-masked m w s a = eq-eqb (bit_and s m) (bit_and w m) (and_same m s w a)
+bits_masked m w s a = eq-eqb (bit_and s m) (bit_and w m) (and_same m s w a)
 
 -- it depends on the setting's bits in the mask only
 pub agree_same : (m w s t : ℕ) → Agree m t s → agree m w s ≡ agree m w t
@@ -503,9 +503,9 @@ agree-split m w s e = omega (arith, without-sum s m, eqb-true (bit_and s m) w e)
 
 pub agree-sum : (m w y : ℕ) → Sub w m → Apart y m → agree m w (w + y) ≡ true
 agree-sum m w y h a =
-    bits-agree m w (w + y) h (λ k t.
+    bits_agree m w (w + y) h (λ k t.
     ap (λ (x : ℕ). bit x k) (sym (or-sum (apart-sym (apart-sub a h)))) ∙ bit-or w y k
-    ∙ go (bit w k) (bit y k) (bits-apart (apart-sym a) k t))
+    ∙ go (bit w k) (bit y k) (bits_apart (apart-sym a) k t))
   where
     go : (p q : Bool) → q ≡ false → (p || q) ≡ p
     go true q e = refl

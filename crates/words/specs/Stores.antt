@@ -3,10 +3,10 @@ use Rattle.std.specs.Prelude.{ℕ, zero, suc, ◌+◌, ◌≤◌, ◌<◌, List,
 use Rattle.std.proofs.Common.{add-zero, zero-add, add-suc, suc-add, add-one, arith, sym, ap, ◌∙◌, length-set, drop-cons, get_or-set_other, get_or-set_same}
 use Rattle.std.proofs.lemmas.List.Edits.{sets, sets-eq}
 
-pub sets-append : (vs ws l : List ℕ) (i : ℕ) → sets l i (vs ++ ws) ≡ sets (sets l i vs) (i + length vs) ws
-sets-append [] ws l i = rw add-zero
-sets-append (a ∷ vs) ws l i =
-    sets-append vs ws (set l i a) (suc i)
+pub sets_append : (vs ws l : List ℕ) (i : ℕ) → sets l i (vs ++ ws) ≡ sets (sets l i vs) (i + length vs) ws
+sets_append [] ws l i = rw add-zero
+sets_append (a ∷ vs) ws l i =
+    sets_append vs ws (set l i a) (suc i)
     ∙ ap (λ (k : ℕ). sets (sets (set l i a) (suc i) vs) k ws) (suc-add i (length vs) ∙ sym (add-suc i (length vs)))
 
 -- one more element of a list that is copied
@@ -38,31 +38,31 @@ sets-at (v ∷ vs) l at (suc i) h b =
 
 -- ---- as code stores them, one place after the other
 
-pub two-sets : (l : List ℕ) (at x₀ x₁ : ℕ) → set (set l at x₀) (at + 1) x₁ ≡ sets l at (x₀ ∷ x₁ ∷ [])
-two-sets l at x₀ x₁ = rw (add-one at)
+pub two_sets : (l : List ℕ) (at x₀ x₁ : ℕ) → set (set l at x₀) (at + 1) x₁ ≡ sets l at (x₀ ∷ x₁ ∷ [])
+two_sets l at x₀ x₁ = rw (add-one at)
 
-pub three-sets : (l : List ℕ) (at x₀ x₁ x₂ : ℕ) → set (set (set l at x₀) (at + 1) x₁) (at + 2) x₂ ≡ sets l at (x₀ ∷ x₁ ∷ x₂ ∷ [])
-three-sets l at x₀ x₁ x₂ = let e₂ : at + 2 ≡ suc (suc at) = omega arith in rw (add-one at, e₂)
+pub three_sets : (l : List ℕ) (at x₀ x₁ x₂ : ℕ) → set (set (set l at x₀) (at + 1) x₁) (at + 2) x₂ ≡ sets l at (x₀ ∷ x₁ ∷ x₂ ∷ [])
+three_sets l at x₀ x₁ x₂ = let e₂ : at + 2 ≡ suc (suc at) = omega arith in rw (add-one at, e₂)
 
-pub four-sets : (l : List ℕ) (at x₀ x₁ x₂ x₃ : ℕ) → set (set (set (set l at x₀) (at + 1) x₁) (at + 2) x₂) (at + 3) x₃ ≡ sets l at (x₀ ∷ x₁ ∷ x₂ ∷ x₃ ∷ [])
-four-sets l at x₀ x₁ x₂ x₃ =
+pub four_sets : (l : List ℕ) (at x₀ x₁ x₂ x₃ : ℕ) → set (set (set (set l at x₀) (at + 1) x₁) (at + 2) x₂) (at + 3) x₃ ≡ sets l at (x₀ ∷ x₁ ∷ x₂ ∷ x₃ ∷ [])
+four_sets l at x₀ x₁ x₂ x₃ =
     let e₂ : at + 2 ≡ suc (suc at) = omega arith in
     let e₃ : at + 3 ≡ suc (suc (suc at)) = omega arith in
     rw (add-one at, e₂, e₃)
 
 -- two more behind three, and three more behind four
-pub five-sets : (l : List ℕ) (at x₀ x₁ x₂ x₃ x₄ : ℕ)
+pub five_sets : (l : List ℕ) (at x₀ x₁ x₂ x₃ x₄ : ℕ)
     → set (set (sets l at (x₀ ∷ x₁ ∷ x₂ ∷ [])) (at + 3) x₃) (at + 4) x₄ ≡ sets l at (x₀ ∷ x₁ ∷ x₂ ∷ x₃ ∷ x₄ ∷ [])
-five-sets l at x₀ x₁ x₂ x₃ x₄ =
+five_sets l at x₀ x₁ x₂ x₃ x₄ =
     let e₃ : at + 3 ≡ suc (suc (suc at)) = omega arith in
     let e₄ : at + 4 ≡ suc (suc (suc (suc at))) = omega arith in
     rw (e₃, e₄)
 
-pub seven-sets : (l : List ℕ) (at x₀ x₁ x₂ x₃ x₄ x₅ x₆ : ℕ)
+pub seven_sets : (l : List ℕ) (at x₀ x₁ x₂ x₃ x₄ x₅ x₆ : ℕ)
     → set (set (set (set (set (set (set l at x₀) (at + 1) x₁) (at + 2) x₂) (at + 3) x₃) (at + 4) x₄) (at + 5) x₅) (at + 6) x₆
     ≡ sets l at (x₀ ∷ x₁ ∷ x₂ ∷ x₃ ∷ x₄ ∷ x₅ ∷ x₆ ∷ [])
-seven-sets l at x₀ x₁ x₂ x₃ x₄ x₅ x₆ =
+seven_sets l at x₀ x₁ x₂ x₃ x₄ x₅ x₆ =
     let e₄ : at + 4 ≡ suc (suc (suc (suc at))) = omega arith in
     let e₅ : at + 5 ≡ suc (suc (suc (suc (suc at)))) = omega arith in
     let e₆ : at + 6 ≡ suc (suc (suc (suc (suc (suc at))))) = omega arith in
-    rw (four-sets l at x₀ x₁ x₂ x₃, e₄, e₅, e₆)
+    rw (four_sets l at x₀ x₁ x₂ x₃, e₄, e₅, e₆)

@@ -2,7 +2,7 @@
 ghost use Rattle.std.specs.Prelude.{◌≡◌, ◌+◌, ◌^◌, ◌<◌, ◌≤◌};
 ghost use Rattle.words.specs.Word.{bit};
 ghost use Rattle.words.specs.Mask as Mask;
-ghost use Rattle.words.specs.Mask.{rangeMask, Top};
+ghost use Rattle.words.specs.Mask.{range_mask, Top};
 
 // The place v alone.
 pub fn one(v: u8) -> u32
@@ -60,7 +60,7 @@ pub fn agrees(mask: u32, values: u32, setting: u32) -> bool
 // The c places from b on.
 pub fn range_mask(b: u8, c: u8) -> u32
     requires { b + c ≤ 32 }
-    ensures { result ≡ rangeMask b c }
+    ensures { result ≡ range_mask b c }
 {
     if c == 0 {
         return 0;

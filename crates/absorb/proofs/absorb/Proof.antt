@@ -3,7 +3,7 @@ use native.Mathlib.Omega.{arith}
 use Rattle.form.specs.declared.Form.TheVariants.{Narrow, Wide}
 use mathlib.Core.Path.{sym, ◌∙◌}
 use borrow.Author.Rules.{rules}
-use Rattle.absorb.specs.SheetLaws.{form-long}
+use Rattle.absorb.specs.SheetLaws.{form_long}
 use Rattle.absorb.proofs.absorb.Statement.{statement}
 use Rattle.absorb.proofs.absorb.Tie as tie
 
@@ -17,7 +17,7 @@ absorb-narrow-requires : tie.Need-absorb-narrow-requires
 absorb-narrow-requires c κs =
     let pre = c.before.before.before.before.before.before.requires in
     let form = c.before.before.before.form in
-    (pre, omega (arith, form-long pre.1 Narrow (sym form.ensures ∙ c.before.enum_told.given.1)))
+    (pre, omega (arith, form_long pre.1 Narrow (sym form.ensures ∙ c.before.enum_told.given.1)))
 
 enum-told-2 : tie.Need-enum-told-2
 enum-told-2 c = search rules
@@ -26,7 +26,7 @@ absorb-wide-requires : tie.Need-absorb-wide-requires
 absorb-wide-requires c κs =
     let pre = c.before.before.before.before.before.before.requires in
     let form = c.before.before.before.form in
-    (pre, omega (arith, form-long pre.1 Wide (sym form.ensures ∙ c.before.enum-told2.given.1)))
+    (pre, omega (arith, form_long pre.1 Wide (sym form.ensures ∙ c.before.enum-told2.given.1)))
 
 same_length : tie.Need-same-length
 same_length c = search rules

@@ -34,28 +34,28 @@ loop-holds : tie.Need-loop-init invariant-loop decreases-loop
 loop-holds c = kept-none _ _ _ _ _ _
 
 sweep-requires : tie.Need-sweep-requires invariant-loop decreases-loop
-sweep-requires c κs = ((c.before.before.before.before.before.before.before.before.before.before.before.before.before.before.before.before.before.before.before.before.before.before.requires.0.0, c.before.before.before.before.before.before.before.loop.invariant.net-of c.before.before.before.before.before.before.before.before.before.before.before.before.before.before.before.before.before.before.before.before.before.before.requires.0.0 c.before.before.before.before.before.before.before.before.before.before.before.before.before.before.before.before.before.before.before.before.before.before.requires.0.1), kept-room c.before.before.before.before.before.before.before.loop.invariant c.before.before.before.before.before.before.before.before.before.before.before.before.before.before.before.before.before.before.before.before.before.before.requires.0.1 (record { at_slots = c.before.before.before.before.before.before.before.before.before.before.before.before.before.before.before.before.before.before.before.before.before.before.requires.1.at_slots; at-sides = c.before.before.before.before.before.before.before.before.before.before.before.before.before.before.before.before.before.before.before.before.before.before.requires.1.at-sides; at-frees = omega (arith, c.before.before.before.before.before.before.before.before.before.before.before.before.before.before.before.before.before.before.before.before.before.before.requires.1.at-frees, c.before.before.before.before.before.before.before.before.before.before.before.before.frees.given); at_words = c.before.before.before.before.before.before.before.before.before.before.before.before.before.before.before.before.before.before.before.before.before.before.requires.1.at_words; at-marks = c.before.before.before.before.before.before.before.before.before.before.before.before.before.before.before.before.before.before.before.before.before.before.requires.1.at-marks }))
+sweep-requires c κs = ((c.before.before.before.before.before.before.before.before.before.before.before.before.before.before.before.before.before.before.before.before.before.before.requires.0.0, c.before.before.before.before.before.before.before.loop.invariant.net_of c.before.before.before.before.before.before.before.before.before.before.before.before.before.before.before.before.before.before.before.before.before.before.requires.0.0 c.before.before.before.before.before.before.before.before.before.before.before.before.before.before.before.before.before.before.before.before.before.before.requires.0.1), kept-room c.before.before.before.before.before.before.before.loop.invariant c.before.before.before.before.before.before.before.before.before.before.before.before.before.before.before.before.before.before.before.before.before.before.requires.0.1 (record { at_slots = c.before.before.before.before.before.before.before.before.before.before.before.before.before.before.before.before.before.before.before.before.before.before.requires.1.at_slots; at_sides = c.before.before.before.before.before.before.before.before.before.before.before.before.before.before.before.before.before.before.before.before.before.before.requires.1.at_sides; at-frees = omega (arith, c.before.before.before.before.before.before.before.before.before.before.before.before.before.before.before.before.before.before.before.before.before.before.requires.1.at-frees, c.before.before.before.before.before.before.before.before.before.before.before.before.frees.given); at_words = c.before.before.before.before.before.before.before.before.before.before.before.before.before.before.before.before.before.before.before.before.before.before.requires.1.at_words; at_marks = c.before.before.before.before.before.before.before.before.before.before.before.before.before.before.before.before.before.before.before.before.before.before.requires.1.at_marks }))
 
 same-length-3 : tie.Need-same-length-3 invariant-loop decreases-loop
 same-length-3 c = c.before.before.before.before.before.before.before.before.before.before.before.before.net.given ∙ c.before.before.before.before.before.before.before.before.before.before.before.before.before.before.before.before.before.before.before.before.before.loop.invariant.long
 
 same-length-4 : tie.Need-same-length-4 invariant-loop decreases-loop
-same-length-4 c = c.before.before.before.before.before.before.before.before.before.before.slots.given ∙ c.before.before.before.before.before.before.before.before.before.before.before.before.before.before.before.before.before.before.before.before.before.loop.invariant.same-slots
+same-length-4 c = c.before.before.before.before.before.before.before.before.before.before.slots.given ∙ c.before.before.before.before.before.before.before.before.before.before.before.before.before.before.before.before.before.before.before.before.before.loop.invariant.same_slots
 
 same-length-5 : tie.Need-same-length-5 invariant-loop decreases-loop
-same-length-5 c = c.before.before.before.before.before.before.before.before.sides.given ∙ c.before.before.before.before.before.before.before.before.before.before.before.before.before.before.before.before.before.before.before.before.before.loop.invariant.same-sides
+same-length-5 c = c.before.before.before.before.before.before.before.before.sides.given ∙ c.before.before.before.before.before.before.before.before.before.before.before.before.before.before.before.before.before.before.before.before.before.loop.invariant.same_sides
 
 same-length-6 : tie.Need-same-length-6 invariant-loop decreases-loop
 same-length-6 c = c.before.before.before.before.before.before.frees2.given ∙ c.before.before.before.before.before.before.before.before.before.before.before.before.before.before.before.before.before.before.before.before.before.loop.invariant.same-frees ∙ c.before.before.before.before.before.before.before.before.before.before.before.before.before.before.before.before.before.before.before.before.before.before.before.before.before.before.frees.given
 
 same-length-7 : tie.Need-same-length-7 invariant-loop decreases-loop
-same-length-7 c = c.before.before.before.before.words.given ∙ c.before.before.before.before.before.before.before.before.before.before.before.before.before.before.before.before.before.before.before.before.before.loop.invariant.same-words
+same-length-7 c = c.before.before.before.before.words.given ∙ c.before.before.before.before.before.before.before.before.before.before.before.before.before.before.before.before.before.before.before.before.before.loop.invariant.same_words
 
 same-length-8 : tie.Need-same-length-8 invariant-loop decreases-loop
-same-length-8 c = c.before.before.marks.given ∙ c.before.before.before.before.before.before.before.before.before.before.before.before.before.before.before.before.before.before.before.before.before.loop.invariant.same-marks
+same-length-8 c = c.before.before.marks.given ∙ c.before.before.before.before.before.before.before.before.before.before.before.before.before.before.before.before.before.before.before.before.before.loop.invariant.same_marks
 
 returns-2 : tie.Need-returns-2 invariant-loop decreases-loop
-returns-2 c = λ s N. c.before.before.before.before.before.before.before.before.before.before.before.before.before.sweep.ensures s (c.before.before.before.before.before.before.before.before.before.before.before.before.before.before.before.before.before.before.before.before.before.loop.invariant.net-of s N)
+returns-2 c = λ s N. c.before.before.before.before.before.before.before.before.before.before.before.before.before.sweep.ensures s (c.before.before.before.before.before.before.before.before.before.before.before.before.before.before.before.before.before.before.before.before.before.loop.invariant.net_of s N)
 
 add-i : tie.Need-overflow-add-i invariant-loop decreases-loop
 add-i c = omega arith
@@ -64,28 +64,28 @@ loop-less : tie.Need-loop-smaller invariant-loop decreases-loop
 loop-less c = omega arith
 
 loop-again : tie.Need-loop-preserved invariant-loop decreases-loop
-loop-again c = kept_then c.before.before.before.before.before.before.before.before.before.before.before.before.before.before.before.before.before.before.before.before.before.loop.invariant (record { net-of = c.before.before.before.before.before.before.before.before.before.before.before.before.before.sweep.ensures; long = c.before.before.before.before.before.before.before.before.before.before.before.before.net.given; same-slots = c.before.before.before.before.before.before.before.before.before.before.slots.given; same-sides = c.before.before.before.before.before.before.before.before.sides.given; same-frees = c.before.before.before.before.before.before.frees2.given; same-words = c.before.before.before.before.words.given; same-marks = c.before.before.marks.given })
+loop-again c = kept_then c.before.before.before.before.before.before.before.before.before.before.before.before.before.before.before.before.before.before.before.before.before.loop.invariant (record { net_of = c.before.before.before.before.before.before.before.before.before.before.before.before.before.sweep.ensures; long = c.before.before.before.before.before.before.before.before.before.before.before.before.net.given; same_slots = c.before.before.before.before.before.before.before.before.before.before.slots.given; same_sides = c.before.before.before.before.before.before.before.before.sides.given; same-frees = c.before.before.before.before.before.before.frees2.given; same_words = c.before.before.before.before.words.given; same_marks = c.before.before.marks.given })
 
 same-length-9 : tie.Need-same-length-9 invariant-loop decreases-loop
 same-length-9 c = c.before.loop.invariant.long
 
 same-length-10 : tie.Need-same-length-10 invariant-loop decreases-loop
-same-length-10 c = c.before.loop.invariant.same-slots
+same-length-10 c = c.before.loop.invariant.same_slots
 
 same-length-11 : tie.Need-same-length-11 invariant-loop decreases-loop
-same-length-11 c = c.before.loop.invariant.same-sides
+same-length-11 c = c.before.loop.invariant.same_sides
 
 same-length-12 : tie.Need-same-length-12 invariant-loop decreases-loop
 same-length-12 c = c.before.loop.invariant.same-frees ∙ c.before.before.before.before.before.before.frees.given
 
 same-length-13 : tie.Need-same-length-13 invariant-loop decreases-loop
-same-length-13 c = c.before.loop.invariant.same-words
+same-length-13 c = c.before.loop.invariant.same_words
 
 same-length-14 : tie.Need-same-length-14 invariant-loop decreases-loop
-same-length-14 c = c.before.loop.invariant.same-marks
+same-length-14 c = c.before.loop.invariant.same_marks
 
 returns-3 : tie.Need-returns-3 invariant-loop decreases-loop
-returns-3 c = c.before.loop.invariant.net-of
+returns-3 c = c.before.loop.invariant.net_of
 
 pub absorb-in-spec : {M : Type 1} → statement M
 absorb-in-spec =

@@ -8,7 +8,7 @@ use Rattle.words.specs.Logic.{clash}
 use Rattle.net.specs.Net.{frees}
 use Rattle.net.specs.Layout.{binds-below}
 use Rattle.absorb.specs.ConeLaws.{free-at}
-use Rattle.absorb.specs.SheetLaws.{small-form, small_low, absorbable}
+use Rattle.absorb.specs.SheetLaws.{small_form, small_low, absorbable}
 use Rattle.absorb.proofs.may_absorb.Statement.{statement}
 use Rattle.absorb.proofs.may_absorb.Tie as tie
 
@@ -65,7 +65,7 @@ free-words-requires c κs =
 turns-requires : tie.Need-turns-requires
 turns-requires c κs =
     let pre = c.before.before.before.before.before.before.before.before.before.before.before.before.before.before.before.before.before.before.before.before.before.before.before.requires in
-    let free-words = c.before.before.before.before.free-words in
+    let free_words = c.before.before.before.before.free_words in
     let args = c.before.before.before.before.before.before.before.before.before.before.before.before.before.before.before.before.before.before.before.before.before.before.before.args in
     let form = c.before.before.before.before.before.before.before.before.before.before.before.before.before.form in
     let variables = c.before.before.before.before.before.before.before.before.before.before.before.before.variables in
@@ -76,7 +76,7 @@ turns-requires c κs =
     let frees = c.before.before.before.frees in (
       (
         pre.0.1.ground,
-        free-words.ensures,
+        free_words.ensures,
         small_low args.net.now form.ensures variables.ensures (omega (arith, if3.false)),
         omega (
           arith,
@@ -84,7 +84,7 @@ turns-requires c κs =
           if2.false,
           frames.ensures,
         ),
-        pre.1.at-sides,
+        pre.1.at_sides,
       ),
       (
         omega (arith, if1.false, if2.false, frames.ensures, pre.1.at_slots),
@@ -137,7 +137,7 @@ inside-requires c κs =
     let form = c.before.before.before.before.before.before.before.before.before.before.before.before.before.before.before.before.before.before.before.form in
     let variables = c.before.before.before.before.before.before.before.before.before.before.before.before.before.before.before.before.before.before.variables in
     let if3 = c.before.before.before.before.before.before.before.before.before.before.before.before.before.before.before.before.before.if3 in
-    let free-words = c.before.before.before.before.before.before.before.before.before.before.free-words in (
+    let free_words = c.before.before.before.before.before.before.before.before.before.before.free_words in (
       (
         pre.0.1.ground,
         omega (arith, binds-below pre.0.1.ground Node-at.ensures.0 (omega (arith, if4.false)), if1.false, frames.ensures),
@@ -147,10 +147,10 @@ inside-requires c κs =
           binds-below pre.0.1.ground Node-at.ensures.0 (omega (arith, if4.false)),
           if1.false,
           frames.ensures,
-          pre.1.at-marks,
+          pre.1.at_marks,
         ),
       ),
-      free-at pre.0.1.ground free-words.ensures args.g (omega arith),
+      free-at pre.0.1.ground free_words.ensures args.g (omega arith),
     )
 
 same-length-3 : tie.Need-same-length-3
@@ -172,7 +172,7 @@ outside-requires c κs =
     let if1 = c.before.before.before.before.before.before.before.before.before.before.before.before.before.before.before.before.before.before.before.before.before.before.before.before.before.before.if1 in
     let frames = c.before.before.before.before.before.before.before.before.before.before.before.before.before.before.before.before.before.before.before.before.before.before.before.before.before.before.before.frames in
     let marks = c.before.before.before.marks in
-    (pre.0.1.ground, omega (arith, if2.false), omega (arith, if1.false, frames.ensures), omega (arith, pre.1.at-marks, marks.given))
+    (pre.0.1.ground, omega (arith, if2.false), omega (arith, if1.false, frames.ensures), omega (arith, pre.1.at_marks, marks.given))
 
 same-length-6 : tie.Need-same-length-6
 same-length-6 c =
@@ -221,7 +221,7 @@ returns-9 c =
     λ e. absorbable pre.0.1.ground Node-at.ensures.0 (omega (arith, if4.false)) (sym has.ensures ∙ not-false _ if5.false) (omega (
       arith,
       if2.false,
-    )) (omega (arith, if1.false, frames.ensures)) (small-form args.net.now form.ensures variables.ensures (omega (
+    )) (omega (arith, if1.false, frames.ensures)) (small_form args.net.now form.ensures variables.ensures (omega (
       arith,
       if3.false,
     ))) (turns.ensures (not-false _ if6.false)) (inside.ensures (not-false _ if7.false)) (outside.ensures (not-false _ c.if8.false))

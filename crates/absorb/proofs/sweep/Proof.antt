@@ -26,7 +26,7 @@ loop-holds : tie.Need-loop-init invariant-loop decreases-loop
 loop-holds c = kept-none _ _ _ _ _ _
 
 try-node-requires : tie.Need-try-node-requires invariant-loop decreases-loop
-try-node-requires c κs = ((c.before.before.before.before.before.before.before.before.before.before.before.before.before.before.before.before.before.before.requires.0.0, c.before.before.before.before.before.before.before.loop.invariant.net-of c.before.before.before.before.before.before.before.before.before.before.before.before.before.before.before.before.before.before.requires.0.0 c.before.before.before.before.before.before.before.before.before.before.before.before.before.before.before.before.before.before.requires.0.1), kept-room c.before.before.before.before.before.before.before.loop.invariant c.before.before.before.before.before.before.before.before.before.before.before.before.before.before.before.before.before.before.requires.0.1 c.before.before.before.before.before.before.before.before.before.before.before.before.before.before.before.before.before.before.requires.1, omega (arith, kept-count c.before.before.before.before.before.before.before.loop.invariant c.before.before.before.before.before.before.before.before.before.before.before.before.before.before.before.before.before.before.requires.0.1, c.before.before.before.before.before.before.before.before.before.before.frames.ensures))
+try-node-requires c κs = ((c.before.before.before.before.before.before.before.before.before.before.before.before.before.before.before.before.before.before.requires.0.0, c.before.before.before.before.before.before.before.loop.invariant.net_of c.before.before.before.before.before.before.before.before.before.before.before.before.before.before.before.before.before.before.requires.0.0 c.before.before.before.before.before.before.before.before.before.before.before.before.before.before.before.before.before.before.requires.0.1), kept-room c.before.before.before.before.before.before.before.loop.invariant c.before.before.before.before.before.before.before.before.before.before.before.before.before.before.before.before.before.before.requires.0.1 c.before.before.before.before.before.before.before.before.before.before.before.before.before.before.before.before.before.before.requires.1, omega (arith, kept-count c.before.before.before.before.before.before.before.loop.invariant c.before.before.before.before.before.before.before.before.before.before.before.before.before.before.before.before.before.before.requires.0.1, c.before.before.before.before.before.before.before.before.before.before.frames.ensures))
 
 add-k : tie.Need-overflow-add-k invariant-loop decreases-loop
 add-k c = omega arith
@@ -35,28 +35,28 @@ loop-less : tie.Need-loop-smaller invariant-loop decreases-loop
 loop-less c = omega arith
 
 loop-again : tie.Need-loop-preserved invariant-loop decreases-loop
-loop-again c = kept_then c.before.before.before.before.before.before.before.before.before.before.before.before.before.before.before.before.before.before.before.before.loop.invariant (record { net-of = c.before.before.before.before.before.before.before.before.before.before.before.before.try-node.ensures; long = c.before.before.before.before.before.before.before.before.before.before.before.net.given; same-slots = c.before.before.before.before.before.before.before.before.before.slots.given; same-sides = c.before.before.before.before.before.before.before.sides.given; same-frees = c.before.before.before.before.before.frees.given; same-words = c.before.before.before.words.given; same-marks = c.before.marks.given })
+loop-again c = kept_then c.before.before.before.before.before.before.before.before.before.before.before.before.before.before.before.before.before.before.before.before.loop.invariant (record { net_of = c.before.before.before.before.before.before.before.before.before.before.before.before.try-node.ensures; long = c.before.before.before.before.before.before.before.before.before.before.before.net.given; same_slots = c.before.before.before.before.before.before.before.before.before.slots.given; same_sides = c.before.before.before.before.before.before.before.sides.given; same-frees = c.before.before.before.before.before.frees.given; same_words = c.before.before.before.words.given; same_marks = c.before.marks.given })
 
 same_length : tie.Need-same-length invariant-loop decreases-loop
 same_length c = c.before.loop.invariant.long
 
 same-length-2 : tie.Need-same-length-2 invariant-loop decreases-loop
-same-length-2 c = c.before.loop.invariant.same-slots
+same-length-2 c = c.before.loop.invariant.same_slots
 
 same-length-3 : tie.Need-same-length-3 invariant-loop decreases-loop
-same-length-3 c = c.before.loop.invariant.same-sides
+same-length-3 c = c.before.loop.invariant.same_sides
 
 same-length-4 : tie.Need-same-length-4 invariant-loop decreases-loop
 same-length-4 c = c.before.loop.invariant.same-frees
 
 same-length-5 : tie.Need-same-length-5 invariant-loop decreases-loop
-same-length-5 c = c.before.loop.invariant.same-words
+same-length-5 c = c.before.loop.invariant.same_words
 
 same-length-6 : tie.Need-same-length-6 invariant-loop decreases-loop
-same-length-6 c = c.before.loop.invariant.same-marks
+same-length-6 c = c.before.loop.invariant.same_marks
 
 returns : tie.Need-returns invariant-loop decreases-loop
-returns c = c.before.loop.invariant.net-of
+returns c = c.before.loop.invariant.net_of
 
 pub sweep-spec : {M : Type 1} → statement M
 sweep-spec =

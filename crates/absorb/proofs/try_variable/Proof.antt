@@ -7,7 +7,7 @@ use Rattle.absorb.proofs.try_variable.Tie as tie
 grow-requires : tie.Need-grow-requires
 grow-requires c κs =
     let pre = c.before.before.before.before.before.before.before.before.before.before.requires in
-    (pre.0.1.ground, pre.2, pre.3, omega (arith, pre.1.at-frees, pre.2), omega (arith, pre.1.at_slots, pre.2), pre.1.at-sides)
+    (pre.0.1.ground, pre.2, pre.3, omega (arith, pre.1.at-frees, pre.2), omega (arith, pre.1.at_slots, pre.2), pre.1.at_sides)
 
 same_length : tie.Need-same-length
 same_length c = refl
@@ -52,14 +52,14 @@ try-absorb-requires c κs =
       pre.0,
       record {
         at_slots = omega (arith, pre.1.at_slots, slots.given);
-        at-sides = omega (
+        at_sides = omega (
           arith,
-          pre.1.at-sides,
+          pre.1.at_sides,
           sides.given,
         );
         at-frees = pre.1.at-frees;
         at_words = pre.1.at_words;
-        at-marks = pre.1.at-marks;
+        at_marks = pre.1.at_marks;
       },
     )
 

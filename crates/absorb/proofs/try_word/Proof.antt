@@ -1,6 +1,6 @@
 -- `absorb::try_word` meets its contract. Assumes nothing.
 use native.Mathlib.Omega.{arith}
-use Rattle.words.specs.Mask.{top-less}
+use Rattle.words.specs.Mask.{top_less}
 use mathlib.Core.Path.{◌∙◌}
 use borrow.Author.Rules.{rules}
 use Rattle.net.specs.Net.{frees}
@@ -32,7 +32,7 @@ try-variable-requires c κs =
     let pre = c.before.before.before.before.before.before.before.before.before.before.before.before.before.before.before.before.before.requires in
     let loop = c.before.before.before.before.before.before.before.before.before.before.loop in
     let highest = c.before.before.before.before.before.before.before.before.highest in (
-      (pre.0.0, loop.invariant.net-of pre.0.0 pre.0.1),
+      (pre.0.0, loop.invariant.net_of pre.0.0 pre.0.1),
       kept-room loop.invariant pre.0.1 pre.1,
       omega (arith, kept-count loop.invariant pre.0.1, pre.2),
       highest.ensures.1,
@@ -48,13 +48,13 @@ same-length-2 : tie.Need-same-length-2 invariant-loop decreases-loop
 same-length-2 c =
     let slots = c.before.before.before.before.before.before.before.before.before.before.slots in
     let loop = c.before.before.before.before.before.before.before.before.before.before.before.before.before.before.before.before.before.before.before.before.before.before.before.before.loop in
-    slots.given ∙ loop.invariant.same-slots
+    slots.given ∙ loop.invariant.same_slots
 
 same-length-3 : tie.Need-same-length-3 invariant-loop decreases-loop
 same-length-3 c =
     let sides = c.before.before.before.before.before.before.before.before.sides in
     let loop = c.before.before.before.before.before.before.before.before.before.before.before.before.before.before.before.before.before.before.before.before.before.before.before.before.loop in
-    sides.given ∙ loop.invariant.same-sides
+    sides.given ∙ loop.invariant.same_sides
 
 same-length-4 : tie.Need-same-length-4 invariant-loop decreases-loop
 same-length-4 c =
@@ -66,25 +66,25 @@ same-length-5 : tie.Need-same-length-5 invariant-loop decreases-loop
 same-length-5 c =
     let words = c.before.before.before.before.words in
     let loop = c.before.before.before.before.before.before.before.before.before.before.before.before.before.before.before.before.before.before.before.before.before.before.before.before.loop in
-    words.given ∙ loop.invariant.same-words
+    words.given ∙ loop.invariant.same_words
 
 same-length-6 : tie.Need-same-length-6 invariant-loop decreases-loop
 same-length-6 c =
     let loop = c.before.before.before.before.before.before.before.before.before.before.before.before.before.before.before.before.before.before.before.before.before.before.before.before.loop in
-    c.before.before.marks.given ∙ loop.invariant.same-marks
+    c.before.before.marks.given ∙ loop.invariant.same_marks
 
 returns : tie.Need-returns invariant-loop decreases-loop
 returns c =
     let try-variable = c.before.before.before.before.before.before.before.before.before.before.before.before.before.try-variable in
     let loop = c.before.before.before.before.before.before.before.before.before.before.before.before.before.before.before.before.before.before.before.before.before.before.before.before.loop in
-    λ s N. try-variable.ensures s (loop.invariant.net-of s N)
+    λ s N. try-variable.ensures s (loop.invariant.net_of s N)
 
 loop-less : tie.Need-loop-smaller invariant-loop decreases-loop
 loop-less c =
     let highest = c.before.before.before.before.before.before.before.before.before.before.before.before.before.before.before.before.before.before.before.before.before.before.highest in
     let one = c.before.before.before.before.before.before.before.before.before.before.before.before.before.before.before.before.before.before.before.before.before.one in
     let without = c.before.before.before.before.before.before.before.before.before.before.before.before.before.before.before.before.before.before.before.before.without in
-    top-less highest.ensures.0 one.ensures without.ensures
+    top_less highest.ensures.0 one.ensures without.ensures
 
 loop-again : tie.Need-loop-preserved invariant-loop decreases-loop
 loop-again c =
@@ -95,28 +95,28 @@ loop-again c =
     let sides = c.before.before.before.before.before.before.before.before.sides in
     let frees = c.before.before.before.before.before.before.frees in
     let words = c.before.before.before.before.words in
-    kept_then loop.invariant (record { net-of = try-variable.ensures; long = net.given; same-slots = slots.given; same-sides = sides.given; same-frees = frees.given; same-words = words.given; same-marks = c.before.before.marks.given })
+    kept_then loop.invariant (record { net_of = try-variable.ensures; long = net.given; same_slots = slots.given; same_sides = sides.given; same-frees = frees.given; same_words = words.given; same_marks = c.before.before.marks.given })
 
 same-length-7 : tie.Need-same-length-7 invariant-loop decreases-loop
 same-length-7 c = c.before.loop.invariant.long
 
 same-length-8 : tie.Need-same-length-8 invariant-loop decreases-loop
-same-length-8 c = c.before.loop.invariant.same-slots
+same-length-8 c = c.before.loop.invariant.same_slots
 
 same-length-9 : tie.Need-same-length-9 invariant-loop decreases-loop
-same-length-9 c = c.before.loop.invariant.same-sides
+same-length-9 c = c.before.loop.invariant.same_sides
 
 same-length-10 : tie.Need-same-length-10 invariant-loop decreases-loop
 same-length-10 c = c.before.loop.invariant.same-frees
 
 same-length-11 : tie.Need-same-length-11 invariant-loop decreases-loop
-same-length-11 c = c.before.loop.invariant.same-words
+same-length-11 c = c.before.loop.invariant.same_words
 
 same-length-12 : tie.Need-same-length-12 invariant-loop decreases-loop
-same-length-12 c = c.before.loop.invariant.same-marks
+same-length-12 c = c.before.loop.invariant.same_marks
 
 returns-2 : tie.Need-returns-2 invariant-loop decreases-loop
-returns-2 c = c.before.loop.invariant.net-of
+returns-2 c = c.before.loop.invariant.net_of
 
 pub try-word-spec : {M : Type 1} → statement M
 try-word-spec =

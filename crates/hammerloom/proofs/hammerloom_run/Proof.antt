@@ -1,6 +1,6 @@
 -- `hammerloom::hammerloom_run` meets its contract: what run ensures of any two tables. Assumes nothing.
 use borrow.Author.Rules.{rules}
-use Rattle.hammerloom.specs.Host.{host-run}
+use Rattle.hammerloom.specs.Host.{host_run}
 use Rattle.hammerloom.proofs.hammerloom_run.Statement.{statement}
 use Rattle.hammerloom.proofs.hammerloom_run.Tie as tie
 
@@ -20,7 +20,7 @@ same_length : tie.Need-same-length
 same_length c = search rules
 
 returns : tie.Need-returns
-returns c = host-run c.before.before.before.before.before.run.ensures c.told.ensures
+returns c = host_run c.before.before.before.before.before.run.ensures c.told.ensures
 
 pub hammerloom-run-spec : {M : Type 1} → statement M
 hammerloom-run-spec =

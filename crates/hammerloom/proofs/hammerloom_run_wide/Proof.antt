@@ -1,6 +1,6 @@
 -- `hammerloom::hammerloom_run_wide` meets its contract: what run_wide ensures of any two tables. Assumes nothing.
 use borrow.Author.Rules.{rules}
-use Rattle.hammerloom.specs.Host.{host-run}
+use Rattle.hammerloom.specs.Host.{host_run}
 use Rattle.hammerloom.proofs.hammerloom_run_wide.Statement.{statement}
 use Rattle.hammerloom.proofs.hammerloom_run_wide.Tie as tie
 
@@ -20,7 +20,7 @@ same_length : tie.Need-same-length
 same_length c = search rules
 
 returns : tie.Need-returns
-returns c = host-run c.before.before.before.before.before.run-wide.ensures c.told-wide.ensures
+returns c = host_run c.before.before.before.before.before.run-wide.ensures c.told-wide.ensures
 
 pub hammerloom-run-wide-spec : {M : Type 1} → statement M
 hammerloom-run-wide-spec =

@@ -4,7 +4,7 @@ use native.Mathlib.Omega.{arith}
 use mathlib.Core.Path.{◌≡◌, refl, ◌∙◌}
 use lib.ListN.{length}
 use Rattle.implicant.specs.Implicant.{Shows}
-use Rattle.implicant.specs.ImplicantLaws.{shows-none, shows-at}
+use Rattle.implicant.specs.ImplicantLaws.{shows_none, shows_at}
 use Rattle.implicant.proofs.explain.Statement.{statement}
 use Rattle.implicant.proofs.explain.Tie as tie
 
@@ -15,7 +15,7 @@ abbrev decreases-loop : tie.decreases-loop
 decreases-loop net a cube own cells₀ k₀ cells k = a + 1 - k
 
 loop-holds : tie.Need-loop-init invariant-loop decreases-loop
-loop-holds c = (shows-none c.before.before.requires.2, refl)
+loop-holds c = (shows_none c.before.before.requires.2, refl)
 
 explain-at-requires : tie.Need-explain-at-requires invariant-loop decreases-loop
 explain-at-requires c κs =
@@ -44,7 +44,7 @@ same_length c = c.before.before.before.loop.invariant.1
 returns : tie.Need-returns invariant-loop decreases-loop
 returns c =
     let loop° = c.before.before.before.loop in
-    (shows-at loop°.invariant.0 (omega (arith, c.before.before.loop-test.false)) c.known_at_lem.ensures.0 c.known_at_lem.ensures.1, loop°.invariant.1)
+    (shows_at loop°.invariant.0 (omega (arith, c.before.before.loop-test.false)) c.known_at_lem.ensures.0 c.known_at_lem.ensures.1, loop°.invariant.1)
 
 pub explain-spec : {M : Type 1} → statement M
 explain-spec =

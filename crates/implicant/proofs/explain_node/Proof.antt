@@ -3,8 +3,8 @@ use native.Mathlib.Omega.{arith}
 use mathlib.Core.Path.{refl}
 use borrow.Author.Rules.{rules}
 use Rattle.net.specs.Layout.{reads-low, names-below, joins-right}
-use Rattle.judge.specs.JudgeLaws.{right-leaf, right-not, right-gate, right-binds}
-use Rattle.implicant.specs.ImplicantLaws.{shows-at}
+use Rattle.judge.specs.JudgeLaws.{right_leaf, right-not, right-gate, right-binds}
+use Rattle.implicant.specs.ImplicantLaws.{shows_at}
 use Rattle.implicant.proofs.explain_node.Statement.{statement}
 use Rattle.implicant.proofs.explain_node.Tie as tie
 
@@ -21,7 +21,7 @@ returns : tie.Need-returns
 returns c =
     let pre° = c.before.before.before.before.before.requires in
     let node-at° = c.before.before.Node-at in
-    right-leaf pre°.0 node-at°.ensures.0 c.before.if1.true c.leaf.ensures
+    right_leaf pre°.0 node-at°.ensures.0 c.before.if1.true c.leaf.ensures
 
 known-at-requires : tie.Need-known-at-requires
 known-at-requires c κs =
@@ -37,7 +37,7 @@ returns-2 c =
     let pre° = c.before.before.before.before.before.before.before.requires in
     let node-at° = c.before.before.before.before.Node-at in
     let known-at° = c.before.before.known_at_lem in
-    right-not pre°.0 node-at°.ensures.0 c.before.if2.true (shows-at pre°.2 (names-below pre°.0 node-at°.ensures.0 (omega (arith, c.before.if2.true))) known-at°.ensures.0 known-at°.ensures.1) c.negated.ensures
+    right-not pre°.0 node-at°.ensures.0 c.before.if2.true (shows_at pre°.2 (names-below pre°.0 node-at°.ensures.0 (omega (arith, c.before.if2.true))) known-at°.ensures.0 known-at°.ensures.1) c.negated.ensures
 
 known-at-requires-2 : tie.Need-known-at-requires-2
 known-at-requires-2 c κs =
@@ -60,8 +60,8 @@ returns-3 c =
     let known-at2° = c.before.known-at2 in
     right-gate pre°.0 node-at°.ensures.0
     (omega (arith, if1°.false, if2°.false)) (omega (arith, if3°.true)) refl
-    (shows-at pre°.2 (names-below pre°.0 node-at°.ensures.0 (omega (arith, if1°.false))) known-at°.ensures.0 known-at°.ensures.1)
-    (shows-at pre°.2 (joins-right pre°.0 node-at°.ensures.0 (omega (arith, if1°.false, if2°.false)) (omega (arith, if3°.true))) known-at2°.ensures.0 known-at2°.ensures.1)
+    (shows_at pre°.2 (names-below pre°.0 node-at°.ensures.0 (omega (arith, if1°.false))) known-at°.ensures.0 known-at°.ensures.1)
+    (shows_at pre°.2 (joins-right pre°.0 node-at°.ensures.0 (omega (arith, if1°.false, if2°.false)) (omega (arith, if3°.true))) known-at2°.ensures.0 known-at2°.ensures.1)
     c.joined.ensures
 
 decided-requires : tie.Need-decided-requires
@@ -77,7 +77,7 @@ returns-4 c =
     let known-at° = c.before.before.before.before.known_at_lem in
     let if3° = c.before.before.if3 in
     right-binds pre°.0 node-at°.ensures.0 (omega (arith, if3°.false)) c.before.decided.ensures
-    (shows-at pre°.2 (names-below pre°.0 node-at°.ensures.0 (omega (arith, if3°.false))) known-at°.ensures.0 known-at°.ensures.1)
+    (shows_at pre°.2 (names-below pre°.0 node-at°.ensures.0 (omega (arith, if3°.false))) known-at°.ensures.0 known-at°.ensures.1)
     c.bound.ensures
 
 pub explain-node-spec : {M : Type 1} → statement M

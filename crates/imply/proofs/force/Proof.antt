@@ -4,7 +4,7 @@ use native.Mathlib.Omega.{arith}
 use mathlib.Core.Path.{◌≡◌, refl, ◌∙◌}
 use lib.ListN.{length}
 use Rattle.imply.specs.Required.{Wanted, Forcing}
-use Rattle.imply.specs.RequiredLaws.{required-root, named-fits, wanted-wiped, forcing-none}
+use Rattle.imply.specs.RequiredLaws.{required_root, named-fits, wanted_wiped, forcing_none}
 use Rattle.imply.proofs.force.Statement.{statement}
 use Rattle.imply.proofs.force.Tie as tie
 
@@ -28,7 +28,7 @@ offer-requires c κs =
     let pre° = c.before.before.before.before.before.before.before.before.requires in
     let wipe° = c.before.before.before.wipe in
     named-fits (pre°.0.ground, pre°.0.ground.room, pre°.0.judged, omega (arith, pre°.2, wipe°.ensures.same))
-    pre°.0.here pre°.0.target-low
+    pre°.0.here pre°.0.target_low
 
 add-i : tie.Need-overflow-add-i invariant-loop decreases-loop
 add-i c =
@@ -39,8 +39,8 @@ loop-holds : tie.Need-loop-init invariant-loop decreases-loop
 loop-holds c =
     let pre° = c.before.before.before.before.before.before.before.before.before.before.before.requires in
     let wipe° = c.before.before.before.before.before.before.wipe in (
-      c.before.before.offer.ensures.1 _ _ _ _ _ (wanted-wiped wipe°.ensures pre°.2) (required-root pre°.0.target-low),
-      forcing-none pre°.1 refl refl,
+      c.before.before.offer.ensures.1 _ _ _ _ _ (wanted_wiped wipe°.ensures pre°.2) (required_root pre°.0.target_low),
+      forcing_none pre°.1 refl refl,
       omega arith,
       refl,
     )

@@ -2,7 +2,7 @@
 use native.Mathlib.Omega.{arith}
 use mathlib.Core.Path.{refl}
 use borrow.Author.Rules.{rules}
-use Rattle.imply.specs.RequiredLaws.{wanted-at}
+use Rattle.imply.specs.RequiredLaws.{wanted_at}
 use Rattle.imply.proofs.force_at.Statement.{statement}
 use Rattle.imply.proofs.force_at.Tie as tie
 
@@ -48,7 +48,7 @@ returns-3 c =
     let pass° = c.before.before.before.before.pass in (
       pass°.ensures.same,
       λ a t l W F.
-          let R = wanted-at l W known-at°.ensures.0 known-at°.ensures.1 (omega (arith, if1°.false)) in
+          let R = wanted_at l W known-at°.ensures.0 known-at°.ensures.1 (omega (arith, if1°.false)) in
           (pass°.ensures.keeps a t W R, c.take.ensures a t _ _ R F),
     )
 

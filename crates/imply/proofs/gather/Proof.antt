@@ -1,8 +1,8 @@
 -- `imply::gather` meets its contract. Assumes nothing.
 use native.Mathlib.Omega.{arith}
 use borrow.Author.Rules.{rules}
-use Rattle.words.specs.Mask.{top-less}
-use Rattle.imply.specs.GatherLaws.{Gathering, gather_none, gather-more, gather-end}
+use Rattle.words.specs.Mask.{top_less}
+use Rattle.imply.specs.GatherLaws.{Gathering, gather_none, gather_more, gather-end}
 use Rattle.imply.proofs.gather.Statement.{statement}
 use Rattle.imply.proofs.gather.Tie as tie
 
@@ -36,14 +36,14 @@ without-requires c κs = search rules
 loop-less : tie.Need-loop-smaller invariant-loop decreases-loop
 loop-less c =
     let highest° = c.before.before.before.before.highest in
-    top-less highest°.ensures.0 c.before.one.ensures c.without.ensures
+    top_less highest°.ensures.0 c.before.one.ensures c.without.ensures
 
 loop-again : tie.Need-loop-preserved invariant-loop decreases-loop
 loop-again c =
     let loop° = c.before.before.before.before.before.before.loop in
     let highest° = c.before.before.before.before.highest in
     let index° = c.before.before.before.index in
-    gather-more loop°.invariant highest°.ensures.0 c.before.one.ensures c.without.ensures (rw index°.ensures)
+    gather_more loop°.invariant highest°.ensures.0 c.before.one.ensures c.without.ensures (rw index°.ensures)
 
 returns : tie.Need-returns invariant-loop decreases-loop
 returns c = gather-end c.before.loop.invariant c.loop-test.false

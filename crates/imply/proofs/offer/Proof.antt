@@ -1,7 +1,7 @@
 -- `imply::offer` meets its contract: what is stored is required. Assumes nothing.
 use borrow.Author.Rules.{rules}
 use Rattle.judge.specs.CellLaws.{stored-long}
-use Rattle.imply.specs.RequiredLaws.{wanted-set}
+use Rattle.imply.specs.RequiredLaws.{wanted_set}
 use Rattle.imply.proofs.offer.Statement.{statement}
 use Rattle.imply.proofs.offer.Tie as tie
 
@@ -30,7 +30,7 @@ returns-3 : tie.Need-returns-3
 returns-3 c =
     let pre° = c.before.before.before.before.before.before.before.before.before.before.before.before.before.requires in
     let put° = c.before.before.put in
-    (stored-long put°.ensures, λ net a t m w W R. wanted-set pre°.1 W R put°.ensures)
+    (stored-long put°.ensures, λ net a t m w W R. wanted_set pre°.1 W R put°.ensures)
 
 pub offer-spec : {M : Type 1} → statement M
 offer-spec =

@@ -2,8 +2,8 @@
 use native.Mathlib.Omega.{arith}
 use mathlib.Core.Path.{refl}
 use borrow.Author.Rules.{rules}
-use Rattle.net.specs.Layout.{flips-below}
-use Rattle.imply.specs.RequiredLaws.{named-fits, required-flip}
+use Rattle.net.specs.Layout.{flips_below}
+use Rattle.imply.specs.RequiredLaws.{named-fits, required_flip}
 use Rattle.imply.proofs.pass.Statement.{statement}
 use Rattle.imply.proofs.pass.Tie as tie
 
@@ -16,7 +16,7 @@ sub-t13 c = search rules
 offer-requires : tie.Need-offer-requires
 offer-requires c κs =
     let pre° = c.before.before.before.before.before.before.before.requires in
-    named-fits pre°.1 (flips-below pre°.1.0 pre°.0.0 c.before.before.if2.true) (omega (arith, pre°.0.1))
+    named-fits pre°.1 (flips_below pre°.1.0 pre°.0.0 c.before.before.if2.true) (omega (arith, pre°.0.1))
 
 same_length : tie.Need-same-length
 same_length c = search rules
@@ -28,7 +28,7 @@ returns-2 c =
     let offer° = c.before.before.offer in
     record {
       same = offer°.ensures.0;
-      keeps = λ a t W R. offer°.ensures.1 _ a t _ _ W (required-flip pre°.1.0 pre°.0.0 R pre°.0.1 if2°.true);
+      keeps = λ a t W R. offer°.ensures.1 _ a t _ _ W (required_flip pre°.1.0 pre°.0.0 R pre°.0.1 if2°.true);
     }
 
 pass-gate-requires : tie.Need-pass-gate-requires

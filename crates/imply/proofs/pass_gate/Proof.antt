@@ -4,7 +4,7 @@ use mathlib.Core.Path.{refl, ◌∙◌}
 use borrow.Author.Rules.{rules}
 use Rattle.net.specs.Layout.{joins-left, joins-right}
 use Rattle.judge.specs.JudgeLaws.{judged-at}
-use Rattle.imply.specs.RequiredLaws.{named-fits, required-left, required-right, required-other-left, required-other-right}
+use Rattle.imply.specs.RequiredLaws.{named-fits, required_left, required_right, required_other_left, required_other_right}
 use Rattle.imply.proofs.pass_gate.Statement.{statement}
 use Rattle.imply.proofs.pass_gate.Tie as tie
 
@@ -35,8 +35,8 @@ returns c =
     record {
       same = offer2°.ensures.0 ∙ offer°.ensures.0;
       keeps = λ a t W R. offer2°.ensures.1 _ a t _ _
-          (offer°.ensures.1 _ a t _ _ W (required-left pre°.1.0 pre°.0.0 R pre°.0.3 pre°.0.1 pre°.0.2 refl if1°.true))
-          (required-right pre°.1.0 pre°.0.0 R pre°.0.3 pre°.0.1 pre°.0.2 refl if1°.true);
+          (offer°.ensures.1 _ a t _ _ W (required_left pre°.1.0 pre°.0.0 R pre°.0.3 pre°.0.1 pre°.0.2 refl if1°.true))
+          (required_right pre°.1.0 pre°.0.0 R pre°.0.3 pre°.0.1 pre°.0.2 refl if1°.true);
     }
 
 known-at-requires : tie.Need-known-at-requires
@@ -67,7 +67,7 @@ returns-2 c =
     record {
       same = offer3°.ensures.0;
       keeps = λ a t W R. offer3°.ensures.1 _ a t _ _ W (rw (also°.ensures.0, also°.ensures.1)
-          (required-other-right pre°.1.0 pre°.0.0 R pre°.0.3 pre°.0.1 pre°.0.2 refl
+          (required_other_right pre°.1.0 pre°.0.0 R pre°.0.3 pre°.0.1 pre°.0.2 refl
           if1°.false (omega (arith, if2°.true)) if3°.true (judged-at pre°.1.2 known-at°.ensures.0 known-at°.ensures.1)));
     }
 
@@ -102,7 +102,7 @@ returns-4 c =
     record {
       same = offer4°.ensures.0;
       keeps = λ a t W R. offer4°.ensures.1 _ a t _ _ W (rw (also2°.ensures.0, also2°.ensures.1)
-          (required-other-left pre°.1.0 pre°.0.0 R pre°.0.3 pre°.0.1 pre°.0.2 refl
+          (required_other_left pre°.1.0 pre°.0.0 R pre°.0.3 pre°.0.1 pre°.0.2 refl
           if1°.false (omega (arith, if4°.true)) if5°.true (judged-at pre°.1.2 known-at2°.ensures.0 known-at2°.ensures.1)));
     }
 

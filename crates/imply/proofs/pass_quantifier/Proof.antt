@@ -2,7 +2,7 @@
 use mathlib.Core.Path.{refl, sym, ◌∙◌}
 use borrow.Author.Rules.{rules}
 use Rattle.net.specs.Layout.{binds-below}
-use Rattle.imply.specs.RequiredLaws.{named-fits, required-body}
+use Rattle.imply.specs.RequiredLaws.{named-fits, required_body}
 use Rattle.imply.proofs.pass_quantifier.Statement.{statement}
 use Rattle.imply.proofs.pass_quantifier.Tie as tie
 
@@ -30,7 +30,7 @@ returns-2 c =
     record {
       same = offer°.ensures.0;
       keeps = λ a t W R. offer°.ensures.1 _ a t _ _ W
-          (required-body pre°.1.0 pre°.0.0 R pre°.0.2 pre°.0.1 (λ e. if1°.false (e ∙ sym decided°.ensures)) (record { none = if2°.true }));
+          (required_body pre°.1.0 pre°.0.0 R pre°.0.2 pre°.0.1 (λ e. if1°.false (e ∙ sym decided°.ensures)) (record { none = if2°.true }));
     }
 
 returns-3 : tie.Need-returns-3

@@ -4,7 +4,7 @@ use mathlib.Core.Path.{sym, ◌∙◌}
 use borrow.Author.Tests.{not-false}
 use borrow.Author.Rules.{rules}
 use Rattle.net.specs.Layout.{reads-low}
-use Rattle.imply.specs.RequiredLaws.{why-reads, forcing-take}
+use Rattle.imply.specs.RequiredLaws.{why-reads, forcing_take}
 use Rattle.imply.proofs.take.Statement.{statement}
 use Rattle.imply.proofs.take.Tie as tie
 
@@ -61,7 +61,7 @@ returns-4 c a t m w R F =
     let if2° = c.before.before.before.before.before.if2 in
     let has2° = c.before.before.before.before.has2 in
     let if3° = c.before.before.before.if3 in
-    forcing-take F variable°.ensures (omega (arith, reads-low pre°.1 pre°.0 if1°.false))
+    forcing_take F variable°.ensures (omega (arith, reads-low pre°.1 pre°.0 if1°.false))
     (sym has°.ensures ∙ not-false _ if2°.false)
     (sym has2°.ensures ∙ if3°.false)
     (why-reads pre°.1 pre°.0 R if1°.false) c.before.before.one.ensures c.before.with.ensures

@@ -1,7 +1,7 @@
 -- `imply::wipe` meets its contract: the words up to i are 0. Assumes nothing.
 use Prim.Native.Nat.{◌-◌}
 use native.Mathlib.Omega.{arith}
-use Rattle.imply.specs.RequiredLaws.{Wiping, wiping-none, wiping-more, wiping-end}
+use Rattle.imply.specs.RequiredLaws.{Wiping, wiping_none, wiping_more, wiping-end}
 use Rattle.imply.proofs.wipe.Statement.{statement}
 use Rattle.imply.proofs.wipe.Tie as tie
 
@@ -18,7 +18,7 @@ add-end : tie.Need-overflow-add-end invariant-loop decreases-loop
 add-end c = omega arith
 
 loop-holds : tie.Need-loop-init invariant-loop decreases-loop
-loop-holds c = wiping-none _
+loop-holds c = wiping_none _
 
 mul-wants : tie.Need-overflow-mul-wants invariant-loop decreases-loop
 mul-wants c = omega (arith, c.before.before.requires, c.before.loop.invariant.same)
@@ -35,7 +35,7 @@ loop-less c = omega arith
 loop-again : tie.Need-loop-preserved invariant-loop decreases-loop
 loop-again c =
     let loop° = c.before.loop in
-    wiping-more (omega (arith, c.before.before.requires, loop°.invariant.same)) loop°.invariant
+    wiping_more (omega (arith, c.before.before.requires, loop°.invariant.same)) loop°.invariant
 
 same_length : tie.Need-same-length invariant-loop decreases-loop
 same_length c = c.before.loop.invariant.same

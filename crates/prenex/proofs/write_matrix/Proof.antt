@@ -3,7 +3,7 @@ use borrow.Author.Rules.{rules}
 use Prim.Native.Nat.{◌≤◌}
 use native.Mathlib.Omega.{arith}
 use Rattle.words.specs.Word.{bit}
-use Rattle.prenex.specs.MatrixStores.{ends-room, ends-members, literals-written, matrix-written}
+use Rattle.prenex.specs.MatrixStores.{ends-room, ends_members, literals-written, matrix-written}
 use Rattle.prenex.proofs.write_matrix.Statement.{statement}
 use Rattle.prenex.proofs.write_matrix.Tie as tie
 
@@ -34,7 +34,7 @@ write-conjunction-requires c κs =
       k,
       omega (arith, w.frames-few, p.1, c.before.before.before.before.before.before.before.before.before.before.write-negations.ensures.1, c.before.before.before.before.before.before.before.before.before.before.before.before.before.before.write-inputs.ensures.1),
       search rules,
-      ends-members w k,
+      ends_members w k,
     )
 
 same_length : tie.Need-same-length

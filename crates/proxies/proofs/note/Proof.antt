@@ -2,7 +2,7 @@
 use native.Mathlib.Omega.{arith}
 use mathlib.Core.Path.{sym, ◌∙◌}
 use Rattle.words.specs.Logic.{clash}
-use Rattle.proxies.specs.Growing.{growing-same}
+use Rattle.proxies.specs.Growing.{growing_same}
 use borrow.Author.Rules.{rules}
 use Rattle.proxies.proofs.note.Statement.{statement}
 use Rattle.proxies.proofs.note.Tie as tie
@@ -11,13 +11,13 @@ frames-requires : tie.Need-frames-requires
 frames-requires c κs = search rules
 
 returns : tie.Need-returns
-returns c E = (growing-same, λ l q. absurd (omega (arith, l, c.before.frames.ensures, c.if1.true)))
+returns c E = (growing_same, λ l q. absurd (omega (arith, l, c.before.frames.ensures, c.if1.true)))
 
 changed-requires : tie.Need-changed-requires
 changed-requires c κs = search rules
 
 returns-2 : tie.Need-returns-2
-returns-2 c E = (growing-same, λ l q. clash _ (sym c.before.changed.ensures ∙ c.if2.true) q)
+returns-2 c E = (growing_same, λ l q. clash _ (sym c.before.changed.ensures ∙ c.if2.true) q)
 
 form-requires : tie.Need-form-requires
 form-requires c κs = search rules

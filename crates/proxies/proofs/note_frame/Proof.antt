@@ -1,7 +1,7 @@
 -- `proxies::note_frame` meets its contract: the record that is put is true, and agrees with the word. Assumes nothing.
 use native.Mathlib.Omega.{arith}
 use borrow.Author.Rules.{rules}
-use Rattle.proxies.specs.KeptLaws.{low_fits, noted-under, noted-over}
+use Rattle.proxies.specs.KeptLaws.{low_fits, noted_under, noted_over}
 use Rattle.proxies.proofs.note_frame.Statement.{statement}
 use Rattle.proxies.proofs.note_frame.Tie as tie
 
@@ -26,7 +26,7 @@ same_length c = search rules
 returns : tie.Need-returns
 returns c =
     let args° = c.before.before.before.before.before.before.before.before.before.before.before.args in
-    noted-under args°.word args°.known.reason c.before.before.before.before.before.before.before.before.low.ensures c.before.before.before.before.before.before.low2.ensures (omega arith) c.before.before.put.ensures
+    noted_under args°.word args°.known.reason c.before.before.before.before.before.before.before.before.low.ensures c.before.before.before.before.before.before.low2.ensures (omega arith) c.before.before.put.ensures
 
 cast-put-2 : tie.Need-overflow-cast-put-2
 cast-put-2 c = search rules
@@ -43,7 +43,7 @@ same-length-2 c = search rules
 returns-2 : tie.Need-returns-2
 returns-2 c =
     let args° = c.before.before.before.before.before.before.before.before.before.before.before.args in
-    noted-over args°.word args°.known.reason c.before.before.before.before.before.before.before.before.low.ensures c.before.before.before.before.before.before.low2.ensures (omega (arith, c.before.before.before.before.before.before.before.before.before.before.before.requires)) c.before.before.put2.ensures
+    noted_over args°.word args°.known.reason c.before.before.before.before.before.before.before.before.low.ensures c.before.before.before.before.before.before.low2.ensures (omega (arith, c.before.before.before.before.before.before.before.before.before.before.before.requires)) c.before.before.put2.ensures
 
 pub note-frame-spec : {M : Type 1} → statement M
 note-frame-spec =

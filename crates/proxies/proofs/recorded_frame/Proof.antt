@@ -4,7 +4,7 @@ use mathlib.Core.Logic.{inl, inr}
 use mathlib.Core.Path.{◌≡◌, refl}
 use borrow.Author.Rules.{rules}
 use Rattle.form.specs.Form.{fits-room}
-use Rattle.proxies.specs.KeptLaws.{recorded-at}
+use Rattle.proxies.specs.KeptLaws.{recorded_at}
 use Rattle.records.specs.declared.Found.TheVariants.{At}
 use Rattle.proxies.proofs.recorded_frame.Statement.{statement}
 use Rattle.proxies.proofs.recorded_frame.Tie as tie
@@ -28,7 +28,7 @@ mask-of-requires : tie.Need-mask-of-requires
 mask-of-requires c κs = let e : c.before.before.before.search.result ≡ At c.before.u.given.0.0 = cc in let f = rw e at c.before.before.before.search.ensures in omega (arith, f.counted, fits-room c.before.before.before.before.before.before.before.before.args.form c.before.before.before.before.before.before.before.before.requires.1)
 
 returns : tie.Need-returns
-returns c = let e : c.before.before.before.before.search.result ≡ At c.before.before.u.given.0.0 = cc in let f = rw e at c.before.before.before.before.search.ensures in λ l. inl (refl, recorded-at _ c.before.before.before.before.before.all.ensures c.before.before.before.before.before.before.low.ensures f c.mask-of.ensures)
+returns c = let e : c.before.before.before.before.search.result ≡ At c.before.before.u.given.0.0 = cc in let f = rw e at c.before.before.before.before.search.ensures in λ l. inl (refl, recorded_at _ c.before.before.before.before.before.all.ensures c.before.before.before.before.before.before.low.ensures f c.mask-of.ensures)
 
 enum_told : tie.Need-enum-told
 enum_told c = search rules
@@ -46,7 +46,7 @@ mask-of-requires-2 : tie.Need-mask-of-requires-2
 mask-of-requires-2 c κs = let e : c.before.before.before.search2.result ≡ At c.before.o.given.0.0 = cc in let f = rw e at c.before.before.before.search2.ensures in omega (arith, f.counted, fits-room c.before.before.before.before.before.before.before.before.before.before.before.args.form c.before.before.before.before.before.before.before.before.before.before.before.requires.2)
 
 returns-2 : tie.Need-returns-2
-returns-2 c = let e : c.before.before.before.before.search2.result ≡ At c.before.before.o.given.0.0 = cc in let f = rw e at c.before.before.before.before.search2.ensures in λ l. inr (refl, recorded-at _ c.before.before.before.before.before.before.before.before.all.ensures c.before.before.before.before.before.before.before.before.before.low.ensures f c.mask-of2.ensures)
+returns-2 c = let e : c.before.before.before.before.search2.result ≡ At c.before.before.o.given.0.0 = cc in let f = rw e at c.before.before.before.before.search2.ensures in λ l. inr (refl, recorded_at _ c.before.before.before.before.before.before.before.before.all.ensures c.before.before.before.before.before.before.before.before.before.low.ensures f c.mask-of2.ensures)
 
 enum-told-2 : tie.Need-enum-told-2
 enum-told-2 c = search rules

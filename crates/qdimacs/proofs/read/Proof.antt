@@ -4,7 +4,7 @@ use borrow.Author.Tests.{not-true, not-false}
 use native.Mathlib.Omega.{arith}
 use mathlib.Core.Path.{refl, sym, ap, ◌∙◌}
 use lib.ListN.{length}
-use Rattle.qdimacs.specs.ReadLaws.{headed-found, found-few, found-asked, read_short, read-broken, read-many-variables, read-many-frames, read-settled, sheet-size, sheet-few, sheet-taken, read-accepted}
+use Rattle.qdimacs.specs.ReadLaws.{headed-found, found-few, found-asked, read_short, read_broken, read_many_variables, read_many_frames, read_settled, sheet-size, sheet-few, sheet-taken, read_accepted}
 use Rattle.qdimacs.proofs.read.Statement.{statement}
 use Rattle.qdimacs.proofs.read.Tie as tie
 
@@ -21,14 +21,14 @@ refused-requires-2 : tie.Need-refused-requires-2
 refused-requires-2 c κs = search rules
 
 returns-2 : tie.Need-returns-2
-returns-2 c = read-broken c.refused2.ensures.1 c.before.before.before.before.if1.false c.refused2.ensures.0 c.before.before.before.check.ensures c.before.if2.true
+returns-2 c = read_broken c.refused2.ensures.1 c.before.before.before.before.if1.false c.refused2.ensures.0 c.before.before.before.check.ensures c.before.if2.true
 
 refused-requires-3 : tie.Need-refused-requires-3
 refused-requires-3 c κs = search rules
 
 returns-3 : tie.Need-returns-3
 returns-3 c =
-    read-many-variables c.refused3.ensures.1 c.before.before.before.before.before.before.if1.false c.refused3.ensures.0 (headed-found c.before.before.before.before.before.check.ensures c.before.before.before.if2.false) c.before.if3.true
+    read_many_variables c.refused3.ensures.1 c.before.before.before.before.before.before.if1.false c.refused3.ensures.0 (headed-found c.before.before.before.before.before.check.ensures c.before.before.before.if2.false) c.before.if3.true
 
 slice-aggregate-build : tie.Need-slice-aggregate-build
 slice-aggregate-build c = search rules
@@ -45,7 +45,7 @@ returns-4 : tie.Need-returns-4
 returns-4 c =
     let f = headed-found c.before.before.before.before.before.before.before.before.before.check.ensures c.before.before.before.before.before.before.before.if2.false in
     let few = found-few f c.before.before.before.before.before.if3.false in
-    read-many-frames c.refused4.ensures.1 c.before.before.before.before.before.before.before.before.before.before.if1.false f (c.before.before.before.build.ensures f.question f.fields f.written.proper few) c.refused4.ensures.0 c.before.if4.true
+    read_many_frames c.refused4.ensures.1 c.before.before.before.before.before.before.before.before.before.before.if1.false f (c.before.before.before.build.ensures f.question f.fields f.written.proper few) c.refused4.ensures.0 c.before.if4.true
 
 refused-requires-5 : tie.Need-refused-requires-5
 refused-requires-5 c κs = search rules
@@ -54,7 +54,7 @@ returns-5 : tie.Need-returns-5
 returns-5 c =
     let f = headed-found c.before.before.before.before.before.before.before.before.before.before.before.check.ensures c.before.before.before.before.before.before.before.before.before.if2.false in
     let few = found-few f c.before.before.before.before.before.before.before.if3.false in
-    read-settled c.refused5.ensures.1 c.before.before.before.before.before.before.before.before.before.before.before.before.if1.false f (c.before.before.before.before.before.build.ensures f.question f.fields f.written.proper few) c.refused5.ensures.0
+    read_settled c.refused5.ensures.1 c.before.before.before.before.before.before.before.before.before.before.before.before.if1.false f (c.before.before.before.before.before.build.ensures f.question f.fields f.written.proper few) c.refused5.ensures.0
     c.before.before.before.before.before.before.before.if3.false c.before.before.before.if4.false (not-true _ c.before.if5.true)
 
 mul-size : tie.Need-overflow-mul-size
@@ -92,7 +92,7 @@ returns-6 : tie.Need-returns-6
 returns-6 c =
     let f = headed-found c.before.before.before.before.before.before.before.before.before.before.before.before.before.before.before.before.check.ensures c.before.before.before.before.before.before.before.before.before.before.before.before.before.before.if2.false in
     let few = found-few f c.before.before.before.before.before.before.before.before.before.before.before.before.if3.false in
-    read-accepted c.before.before.before.before.before.before.before.before.before.before.before.before.before.before.before.before.before.if1.false f c.before.before.before.before.before.before.before.before.before.before.before.before.if3.false (c.before.before.before.before.before.before.before.before.before.before.build.ensures f.question f.fields f.written.proper few) c.before.before.before.before.before.before.before.before.if4.false
+    read_accepted c.before.before.before.before.before.before.before.before.before.before.before.before.before.before.before.before.before.if1.false f c.before.before.before.before.before.before.before.before.before.before.before.before.if3.false (c.before.before.before.before.before.before.before.before.before.before.build.ensures f.question f.fields f.written.proper few) c.before.before.before.before.before.before.before.before.if4.false
     (not-false _ c.before.before.before.before.before.before.if5.false) c.before.before.copy.ensures
 
 pub read_spec : {M : Type 1} → statement M

@@ -3,7 +3,7 @@ use mathlib.Core.Path.{◌≡◌}
 use native.Mathlib.Omega.{arith}
 use Rattle.records.specs.declared.Hit.TheVariants.{Under, Over, Neither}
 use Rattle.records.specs.Find.{part_of, place_of, says_of}
-use Rattle.records.specs.Locate.{part-under, part-over, start-place}
+use Rattle.records.specs.Locate.{part_under, part-over, start-place}
 use borrow.Author.Rules.{rules}
 use Rattle.records.proofs.find_form.Statement.{statement}
 use Rattle.records.proofs.find_form.Tie as tie
@@ -47,7 +47,7 @@ returns : tie.Need-returns
 returns c =
     let s = c.before.before.before.before in
     let e : s.locate.result ≡ Under c.before.before.i.given.0.0 = cc in
-    rw (← s.locate.ensures, e) (part-under c.part_at.ensures)
+    rw (← s.locate.ensures, e) (part_under c.part_at.ensures)
 
 returns-2 : tie.Need-returns-2
 returns-2 c =

@@ -3,7 +3,7 @@ use mathlib.Core.Path.{◌≡◌, sym}
 use native.Mathlib.Omega.{arith}
 use Rattle.form.specs.Form.{room_fits}
 use Rattle.records.specs.declared.Found.TheVariants.{At, Nothing}
-use Rattle.records.specs.Find.{hit-under-full, hit-over-full, hit-under, hit-over, hit-neither}
+use Rattle.records.specs.Find.{hit_under_full, hit-over-full, hit_under, hit-over, hit_neither}
 use Rattle.records.specs.Locate.{first-is, first-none}
 use borrow.Author.Rules.{rules}
 use Rattle.records.proofs.locate.Statement.{statement}
@@ -13,7 +13,7 @@ room-requires : tie.Need-room-requires
 room-requires c κs = search rules
 
 returns : tie.Need-returns
-returns c = sym (hit-under-full _ _ _ _ _ _ _ (omega arith))
+returns c = sym (hit_under_full _ _ _ _ _ _ _ (omega arith))
 
 room-requires-2 : tie.Need-room-requires-2
 room-requires-2 c κs = search rules
@@ -45,7 +45,7 @@ returns-3 c =
     let k = s.before.before.before.before.before in
     let e : s.search.result ≡ At c.before.i.given.0.0 = cc in
     let f = rw e at s.search.ensures in
-    sym (hit-under _ _ _ _ _ _ _ (omega arith) (omega arith) (first-is _ _ _ _ _ (λ i. (k.before.shared-slice-known.given i).fits) f) f.counted)
+    sym (hit_under _ _ _ _ _ _ _ (omega arith) (omega arith) (first-is _ _ _ _ _ (λ i. (k.before.shared-slice-known.given i).fits) f) f.counted)
 
 returns-4 : tie.Need-returns-4
 returns-4 c =
@@ -66,7 +66,7 @@ returns-5 c =
     let k = s.before.before.before.before.before in
     let d : s.search.result ≡ Nothing = cc in
     let e : r.search2.result ≡ Nothing = cc in
-    sym (hit-neither _ _ _ _ _ _ _ (omega arith) (omega arith)
+    sym (hit_neither _ _ _ _ _ _ _ (omega arith) (omega arith)
     (first-none _ _ _ _ _ (λ i. (k.before.shared-slice-known.given i).fits) (rw d at s.search.ensures))
     (first-none _ _ _ _ _ (λ i. (k.shared-slice-known2.given i).fits) (rw e at r.search2.ensures)))
 

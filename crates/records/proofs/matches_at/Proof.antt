@@ -28,7 +28,7 @@ returns-2 c =
     simp (
       r.frame_is,
       r.mask_is,
-      r.values-are,
+      r.values_are,
       eq-eqb _ _ c.before.before.before.if1.false,
       sym c.before.before.inside.ensures ∙ c.before.if2.true,
       c.record-agrees.ensures,

@@ -2,7 +2,7 @@
 -- Assumes nothing.
 use borrow.Author.Rules.{rules}
 use native.Mathlib.Omega.{arith}
-use Rattle.response.specs.PrintedLaws.{prints-same, counted, place-fits, run-refused, answers-start, run-answered}
+use Rattle.response.specs.PrintedLaws.{prints-same, counted, place-fits, run-refused, answers-start, run_answered}
 use Rattle.response.proofs.print_narrow.Statement.{statement}
 use Rattle.response.proofs.print_narrow.Tie as tie
 
@@ -50,7 +50,7 @@ same-length-2 c = search rules
 returns-2 : tie.Need-returns-2
 returns-2 c =
     let g = c.before.before.before.before.before.before.before.before.before.before.run.ensures in
-    prints-same (run-answered g (omega arith) c.before.before.before.before.before.if1.false) c.before.before.print-answers.ensures
+    prints-same (run_answered g (omega arith) c.before.before.before.before.before.if1.false) c.before.before.print-answers.ensures
 
 pub print-narrow-spec : {M : Type 1} → statement M
 print-narrow-spec =

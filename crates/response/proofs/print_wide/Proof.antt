@@ -1,7 +1,7 @@
 -- `response::print_wide` meets its contract: the answers' part that is handed on holds the reference model's bytes. Assumes nothing.
 use borrow.Author.Rules.{rules}
 use native.Mathlib.Omega.{arith}
-use Rattle.response.specs.PrintedLaws.{prints-same, counted, run-refused, answers-start, run-answered}
+use Rattle.response.specs.PrintedLaws.{prints-same, counted, run-refused, answers-start, run_answered}
 use Rattle.response.proofs.print_wide.Statement.{statement}
 use Rattle.response.proofs.print_wide.Tie as tie
 
@@ -46,7 +46,7 @@ same-length-2 c = search rules
 returns-2 : tie.Need-returns-2
 returns-2 c =
     let g = c.before.before.before.before.before.before.before.before.before.before.run-wide.ensures in
-    prints-same (run-answered g (omega arith) c.before.before.before.before.before.if1.false) c.before.before.print-wide-answers.ensures
+    prints-same (run_answered g (omega arith) c.before.before.before.before.before.if1.false) c.before.before.print-wide-answers.ensures
 
 pub print-wide-spec : {M : Type 1} → statement M
 print-wide-spec =

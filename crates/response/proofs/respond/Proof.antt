@@ -1,7 +1,7 @@
 -- `response::respond` meets its contract: the parts that are handed on hold the bytes that were read. Assumes nothing.
 use borrow.Author.Rules.{rules}
 use native.Mathlib.Omega.{arith}
-use Rattle.response.specs.PrintedLaws.{prints-same, counted, text-refused, text-read}
+use Rattle.response.specs.PrintedLaws.{prints-same, counted, text_refused, text_read}
 use Rattle.response.proofs.respond.Statement.{statement}
 use Rattle.response.proofs.respond.Tie as tie
 
@@ -26,7 +26,7 @@ same_length c = search rules
 returns : tie.Need-returns
 returns c =
     let g = c.before.before.before.before.before.before.before.before.before.read.ensures in
-    prints-same (text-refused g (omega arith) (omega arith) c.before.before.before.before.if1.true) (rw c.before.before.before.before.before.before.of.ensures at c.before.before.print-unread.ensures)
+    prints-same (text_refused g (omega arith) (omega arith) c.before.before.before.before.if1.true) (rw c.before.before.before.before.before.before.of.ensures at c.before.before.print-unread.ensures)
 
 array-share-prefix-sheet : tie.Need-array-share-prefix-sheet
 array-share-prefix-sheet c = search rules
@@ -49,7 +49,7 @@ same-length-2 c = search rules
 returns-2 : tie.Need-returns-2
 returns-2 c =
     let g = c.before.before.before.before.before.before.before.before.before.before.before.read.ensures in
-    prints-same (text-read g (omega arith) (omega arith) c.before.before.before.before.before.before.if1.false) (rw c.before.before.before.before.before.before.before.before.of.ensures at c.before.before.print-run.ensures)
+    prints-same (text_read g (omega arith) (omega arith) c.before.before.before.before.before.before.if1.false) (rw c.before.before.before.before.before.before.before.before.of.ensures at c.before.before.print-run.ensures)
 
 pub respond-spec : {M : Type 1} → statement M
 respond-spec =

@@ -1,9 +1,9 @@
 -- `run::run_form` meets its contract.
 use borrow.Author.Rules.{rules}
 use Rattle.form.specs.Form.{form_of}
-use Rattle.sheet.specs.Fields.{sheetOf}
-use Rattle.net.specs.Sheet.{checked-net}
-use Rattle.certificate.specs.Progress.{run_room, run-checked, run-gauged, run-accepted, run-refused}
+use Rattle.sheet.specs.Fields.{sheet_of}
+use Rattle.net.specs.Sheet.{checked_net}
+use Rattle.certificate.specs.Progress.{run_room, run_checked, run-gauged, run-accepted, run-refused}
 use Rattle.run.proofs.run_form.Statement.{statement}
 use Rattle.run.proofs.run_form.Tie as tie
 
@@ -17,15 +17,15 @@ returns : tie.Need-returns
 returns c =
     let a = c.before.before.before.before.before.before.before.before.before.before.args in
     let k = rw c.before.before.before.of.ensures at c.before.before.check.ensures in
-    run-refused (sheetOf (form_of a.wide) a.sheet.now) a.script.now a.answers.now k c.if1.true
+    run-refused (sheet_of (form_of a.wide) a.sheet.now) a.script.now a.answers.now k c.if1.true
 
 load-requires : tie.Need-load-requires
 load-requires c κs =
     let a = c.before.before.before.before.before.before.before.before.before.before.before.args in
     let k = rw c.before.before.before.before.of.ensures at c.before.before.before.check.ensures in
     let z = c.before.if1.false in (
-      run-checked (sheetOf (form_of a.wide) a.sheet.now) a.script.now a.answers.now k z,
-      run-gauged (sheetOf (form_of a.wide) a.sheet.now) a.script.now a.answers.now k z,
+      run_checked (sheet_of (form_of a.wide) a.sheet.now) a.script.now a.answers.now k z,
+      run-gauged (sheet_of (form_of a.wide) a.sheet.now) a.script.now a.answers.now k z,
       c.before.before.before.before.before.before.before.before.before.before.before.requires,
     )
 
@@ -35,8 +35,8 @@ run-lines-requires c κs =
     let k = rw c.before.before.before.before.before.before.before.before.before.before.before.of.ensures at c.before.before.before.before.before.before.before.before.before.before.check.ensures in
     let z = c.before.before.before.before.before.before.before.before.if1.false in
     let n = c.before.before.before.before.before.before.load.ensures in (
-      (a.sheet.now, checked-net (run-checked (sheetOf (form_of a.wide) a.sheet.now) a.script.now a.answers.now k z) n, n),
-      run_room (sheetOf (form_of a.wide) a.sheet.now) a.script.now a.answers.now k z,
+      (a.sheet.now, checked_net (run_checked (sheet_of (form_of a.wide) a.sheet.now) a.script.now a.answers.now k z) n, n),
+      run_room (sheet_of (form_of a.wide) a.sheet.now) a.script.now a.answers.now k z,
     )
 
 same_length : tie.Need-same-length
@@ -57,8 +57,8 @@ returns-2 c =
     let k = rw c.before.before.before.before.before.before.before.before.before.before.before.before.before.before.before.before.before.before.before.before.of.ensures at c.before.before.before.before.before.before.before.before.before.before.before.before.before.before.before.before.before.before.before.check.ensures in
     let z = c.before.before.before.before.before.before.before.before.before.before.before.before.before.before.before.before.before.if1.false in
     let n = c.before.before.before.before.before.before.before.before.before.before.before.before.before.before.before.load.ensures in
-    let h = checked-net (run-checked (sheetOf (form_of a.wide) a.sheet.now) a.script.now a.answers.now k z) n in
-    run-accepted (sheetOf (form_of a.wide) a.sheet.now) a.script.now a.answers.now k z (c.before.before.before.before.before.before.before.before.run-lines.ensures a.sheet.now h n)
+    let h = checked_net (run_checked (sheet_of (form_of a.wide) a.sheet.now) a.script.now a.answers.now k z) n in
+    run-accepted (sheet_of (form_of a.wide) a.sheet.now) a.script.now a.answers.now k z (c.before.before.before.before.before.before.before.before.run-lines.ensures a.sheet.now h n)
 
 pub run-form-spec : {M : Type 1} → statement M
 run-form-spec =

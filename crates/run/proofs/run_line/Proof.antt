@@ -37,9 +37,9 @@ use denote.Triple.Call.{calls_at}
 use denote.Triple.Clauses.{ensured, lasts}
 use denote.Triple.Table.{entered, cited}
 use denote.Triple.Walked.{says, needs, Stays, walk_of, Walks, ends_at, walked, walk_Meets}
-use Rattle.form.specs.Form.{form_of, answersIn, answerStart}
-use Rattle.sheet.specs.Fields.{sheetOf}
-use Rattle.model.specs.Model.{answerBytes, lines}
+use Rattle.form.specs.Form.{form_of, answers_in, answer_start}
+use Rattle.sheet.specs.Fields.{sheet_of}
+use Rattle.model.specs.Model.{answer_bytes, lines}
 use Rattle.session.specs.Sound.{OnNet}
 use Rattle.session.specs.declared.Session.{Session}
 use Rattle.session.specs.declared.Answer.{Answer}
@@ -88,7 +88,7 @@ module _ {M : Type 1} {𝓤 : Ura M} (𝓛 : Logic 𝓤) (mem : Memory → SProp
 -- what is asked of line i on the net n, with room in the answers a
 abbrev Asks : Bool → Session → ℕ → Bor (List ℕ) → Bor (List ℕ) → Bor (List ℕ) → Bor (List ℕ) → Bor (List ℕ) → Type 0
 Asks wide h i n t a u o =
-    ((b : List ℕ) × OnNet (sheetOf (form_of wide) b) n.now h u.now o.now) × ((i < lines t.now) × (i < answersIn (form_of wide) (length a.now)))
+    ((b : List ℕ) × OnNet (sheet_of (form_of wide) b) n.now h u.now o.now) × ((i < lines t.now) × (i < answers_in (form_of wide) (length a.now)))
 
 -- the bytes of a line are bytes
 abbrev Bytes : Line → Type 0
@@ -162,7 +162,7 @@ module _ {M : Type 1} {𝓤 : Ura M} (𝓛 : Logic 𝓤) (at_mem : Memory → SP
 
     goes_step : Bytes d → ent 𝓤 (⋆ 𝓛 (‵ (flft κ q) ∷ ‵ (flft κₙ qₙ) ∷ ‵ (flft κᵤ qᵤ) ∷ ‵ (flft κₒ qₒ) ∷ ‵ Borrow ∷ ‵ Net ∷ ‵ Under ∷ ‵ Over ∷ [])) ((InPlace 𝓛 at_mem run).pre to_step)
     goes_step fits =
-        qed 𝓛 (‵ (flft κ q) ∷ ‵ (flft κₙ qₙ) ∷ ‵ (flft κᵤ qᵤ) ∷ ‵ (flft κₒ qₒ) ∷ ‵ Borrow ∷ ‵ Net ∷ ‵ Under ∷ ‵ Over ∷ []) ∵ says ! (sheetOf (form_of wide) asked.0.0, asked.0.1) $
+        qed 𝓛 (‵ (flft κ q) ∷ ‵ (flft κₙ qₙ) ∷ ‵ (flft κᵤ qᵤ) ∷ ‵ (flft κₒ qₒ) ∷ ‵ Borrow ∷ ‵ Net ∷ ‵ Under ∷ ‵ Over ∷ []) ∵ says ! (sheet_of (form_of wide) asked.0.0, asked.0.1) $
         nothing ! $ move ! (4 ∷ 0 ∷ []) $ join ! $ move ! (3 ∷ 0 ∷ []) $ join ! $ move ! (2 ∷ 0 ∷ []) $ join ! $ move ! (1 ∷ 0 ∷ []) $ join ! $ frame ! $
         nothing ! $ move ! (4 ∷ 0 ∷ []) $ fjoin ! $ move ! (3 ∷ 0 ∷ []) $ fjoin ! $ move ! (2 ∷ 0 ∷ []) $ fjoin ! $
         owned ! u8 (Is u8) (uint_Makes 𝓛 w8) d.c _ (refl, fits.3) $ fjoin ! $ owned ! u8 (Is u8) (uint_Makes 𝓛 w8) d.b _ (refl, fits.2) $ fjoin ! $
@@ -187,7 +187,7 @@ module _ {M : Type 1} {𝓤 : Ura M} (𝓛 : Logic 𝓤) (at_mem : Memory → SP
         nothing ! $ owned ! B.the_row (Is B.the_row) ((LL.makes B.the_type B'.the_plain) 𝓛) w _ is $ fjoin ! $ owned ! usize (Is usize) (uint_Makes 𝓛 w64) i _ (refl, i-fits) $ fjoin ! $ owned ! bool (Is bool) (bool_Makes 𝓛) wide _ refl $ fjoin ! $ move ! (1 ∷ 0 ∷ []) $ fjoin ! $ done !
 
     abbrev Put : List ℕ → Type 0
-    Put b = b ≡ written a.now (answerStart (form_of wide) i) (answerBytes (form_of wide) (record { number = w.number; v = w.v; word = w.word }))
+    Put b = b ≡ written a.now (answer_start (form_of wide) i) (answer_bytes (form_of wide) (record { number = w.number; v = w.v; word = w.word }))
 
     -- what is said of the last value of the answers
     abbrev Written : List ℕ × (Unit {0} × (Unit {0} × (Unit {0} × Unit {0}))) → Fml

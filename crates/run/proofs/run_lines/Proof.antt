@@ -56,11 +56,11 @@ use denote.Exit.{yes}
 use borrow.Author.Tests.{ltb-true}
 use borrow.Rule.Slice.Lend.{sl_relent_backˡ}
 use Rattle.words.specs.Logic.{by_bool, tests}
-use Rattle.form.specs.Form.{form_of, answersIn}
+use Rattle.form.specs.Form.{form_of, answers_in}
 use Rattle.form.specs.declared.Form.{Form}
-use Rattle.sheet.specs.Fields.{sheetOf}
+use Rattle.sheet.specs.Fields.{sheet_of}
 use Rattle.sheet.proofs.ReaderCalls.{type_at}
-use Rattle.net.specs.Layout.{freeOf}
+use Rattle.net.specs.Layout.{free_of}
 use Rattle.net.specs.Sheet.{Checked, NetOf}
 use Rattle.sheet.proofs.Relent.{lent, Table, Bare, Way, bare, valued, lends}
 use Rattle.model.specs.Model.{lines}
@@ -73,7 +73,7 @@ use Rattle.session.specs.contracts.entries.empty as emp
 use Rattle.session.proofs.entries.empty.Symbol as emp-def
 use Rattle.session.proofs.entries.empty.Symbol.{name as #session·entries·empty}
 use Rattle.session.proofs.entries.empty.Met as emp-thm
-use Rattle.certificate.specs.Progress.{LineRun, Progress, Turns, turns-none, turns_next, turns-asked}
+use Rattle.certificate.specs.Progress.{LineRun, Progress, Turns, turns_none, turns_next, turns_asked}
 use Rattle.run.specs.declared.Turn.{Turn}
 use Rattle.run.specs.contracts.Turn as U
 use Rattle.run.proofs.Turn.TheLaws as U'
@@ -120,11 +120,11 @@ TurnIs s i w = (w.i ≡ i) × (w.next ≡ i + 1) × (w.more ≡ ltb i (lines s))
 
 -- what is asked of the net and the answers
 abbrev Asks : Form → List ℕ → List ℕ → List ℕ → Type 0
-Asks F n s a = ((b : List ℕ) × Checked (sheetOf F b) (freeOf n) × NetOf (sheetOf F b) n) × (lines s ≤ answersIn F (length a))
+Asks F n s a = ((b : List ℕ) × Checked (sheet_of F b) (free_of n) × NetOf (sheet_of F b) n) × (lines s ≤ answers_in F (length a))
 
 -- what `run_line` says of a line i
 abbrev Ran : Form → List ℕ → ℕ → Session → List ℕ → List ℕ → List ℕ → List ℕ → Session → List ℕ → List ℕ → List ℕ → List ℕ → Type 0
-Ran F s i x n a u o x' n' a' u' o' = (n' ≡ n) × ((b : List ℕ) → OnNet (sheetOf F b) n x u o → LineRun (sheetOf F b) s (freeOf n) i x a u o x' a' u' o')
+Ran F s i x n a u o x' n' a' u' o' = (n' ≡ n) × ((b : List ℕ) → OnNet (sheet_of F b) n x u o → LineRun (sheet_of F b) s (free_of n) i x a u o x' a' u' o')
 
 record State (F : Form) (n s a u o : List ℕ) : Type 0 where
   session : Session
@@ -162,7 +162,7 @@ module _ (F : Form) (n s a u o : List ℕ) where
     line = 0;
     turn_is = k;
     within = omega arith;
-    turns = turns-none a u o e;
+    turns = turns_none a u o e;
     net-long = refl;
     answers-long = refl;
     under-long = refl;
@@ -173,8 +173,8 @@ module _ (F : Form) (n s a u o : List ℕ) where
 
   module _ (t : State F n s a u o) where
     -- the loop is left: every line is run
-    all-run : t.turn.more ≡ false → (b : List ℕ) → Checked (sheetOf F b) (freeOf n) → NetOf (sheetOf F b) n → Progress (sheetOf F b) s (freeOf n) a u o (lines s) t.session t.answers t.under t.over
-    all-run off b k m = subst (λ (i : ℕ). Progress (sheetOf F b) s (freeOf n) a u o i t.session t.answers t.under t.over) (omega (tests, sym t.turn_is.2 ∙ off, t.within)) (t.turns.each b k m)
+    all-run : t.turn.more ≡ false → (b : List ℕ) → Checked (sheet_of F b) (free_of n) → NetOf (sheet_of F b) n → Progress (sheet_of F b) s (free_of n) a u o (lines s) t.session t.answers t.under t.over
+    all-run off b k m = subst (λ (i : ℕ). Progress (sheet_of F b) s (free_of n) a u o i t.session t.answers t.under t.over) (omega (tests, sym t.turn_is.2 ∙ off, t.within)) (t.turns.each b k m)
 
     next-is : (w : Turn) → TurnIs s t.turn.next w → TurnIs s (t.line + 1) w
     next-is w e = subst (λ (i : ℕ). TurnIs s i w) t.turn_is.1 e
@@ -336,7 +336,7 @@ module _ {M : Type 1} {𝓤 : Ura M} (𝓛 : Logic 𝓤) (at_mem : Memory → SP
 
     goes-line : t.turn.more ≡ true → ent 𝓤 (⋆ 𝓛 Goes) ((RunLine 𝓛 at_mem run).pre to-line)
     goes-line on =
-        qed 𝓛 Goes ∵ says ! (subst (λ (i : ℕ). ((b : List ℕ) × OnNet (sheetOf F b) t.net t.session t.under t.over) × ((i < lines s.now) × (i < answersIn F (length t.answers)))) (sym t.turn_is.0) (turns-asked starts (in-script F n.now s.now a.now u.now o.now t on) t.turns)) $
+        qed 𝓛 Goes ∵ says ! (subst (λ (i : ℕ). ((b : List ℕ) × OnNet (sheet_of F b) t.net t.session t.under t.over) × ((i < lines s.now) × (i < answers_in F (length t.answers)))) (sym t.turn_is.0) (turns_asked starts (in-script F n.now s.now a.now u.now o.now t on) t.turns)) $
         nothing ! $ move ! (6 ∷ 0 ∷ []) $ join ! $ move ! (5 ∷ 0 ∷ []) $ join ! $ move ! (4 ∷ 0 ∷ []) $ join ! $ move ! (3 ∷ 0 ∷ []) $ join ! $ move ! (2 ∷ 0 ∷ []) $ join ! $ move ! (1 ∷ 0 ∷ []) $ join ! $ frame ! $
         nothing ! $ move ! (6 ∷ 0 ∷ []) $ fjoin ! $ move ! (5 ∷ 0 ∷ []) $ fjoin ! $ move ! (4 ∷ 0 ∷ []) $ fjoin ! $ move ! (3 ∷ 0 ∷ []) $ fjoin ! $ move ! (2 ∷ 0 ∷ []) $ fjoin ! $ owned ! usize (Is usize) (uint_Makes 𝓛 w64) t.turn.i _ (refl, (turn-words t.turn t.turn-fits).0) $ fjoin ! $ move ! (1 ∷ 0 ∷ []) $ fjoin ! $ owned ! bool (Is bool) (bool_Makes 𝓛) wide _ refl $ fjoin ! $ done !
 

@@ -1,7 +1,7 @@
 -- `to_normal::print` meets its contract: the part that is handed on holds the sheet's bytes that were read. Assumes nothing.
 use borrow.Author.Rules.{rules}
 use native.Mathlib.Omega.{arith}
-use Rattle.to_normal.specs.PrintedLaws.{begins-same, sheet-begins, text-refused, text-read}
+use Rattle.to_normal.specs.PrintedLaws.{begins-same, sheet-begins, text_refused, text_read}
 use Rattle.to_normal.proofs.print.Statement.{statement}
 use Rattle.to_normal.proofs.print.Tie as tie
 
@@ -24,7 +24,7 @@ same_length : tie.Need-same-length
 same_length c = search rules
 
 returns : tie.Need-returns
-returns c = begins-same (text-refused c.before.before.before.before.before.before.before.before.before.read.ensures (omega arith) (omega arith) c.before.before.before.before.if1.true) (rw c.before.before.before.before.before.before.of.ensures at c.before.before.refuse-text.ensures)
+returns c = begins-same (text_refused c.before.before.before.before.before.before.before.before.before.read.ensures (omega arith) (omega arith) c.before.before.before.before.if1.true) (rw c.before.before.before.before.before.before.of.ensures at c.before.before.refuse-text.ensures)
 
 array-share-prefix-sheet : tie.Need-array-share-prefix-sheet
 array-share-prefix-sheet c = search rules
@@ -39,7 +39,7 @@ same-length-2 : tie.Need-same-length-2
 same-length-2 c = search rules
 
 returns-2 : tie.Need-returns-2
-returns-2 c = begins-same (text-read c.before.before.before.before.before.before.before.before.before.before.read.ensures (omega arith) (omega arith) c.before.before.before.before.before.if1.false) (rw c.before.before.before.before.before.before.before.of.ensures at c.before.before.print-sheet.ensures)
+returns-2 c = begins-same (text_read c.before.before.before.before.before.before.before.before.before.before.read.ensures (omega arith) (omega arith) c.before.before.before.before.before.if1.false) (rw c.before.before.before.before.before.before.before.of.ensures at c.before.before.print-sheet.ensures)
 
 pub print-spec : {M : Type 1} → statement M
 print-spec =

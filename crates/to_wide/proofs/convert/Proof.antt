@@ -1,7 +1,7 @@
 -- `to_wide::convert` meets its contract: the parts that are handed on hold the bytes that were read. Assumes nothing.
 use borrow.Author.Rules.{rules}
 use native.Mathlib.Omega.{arith}
-use Rattle.to_wide.specs.ConvertedLaws.{prints-same, sheet-begins, script-begins, text-wide, text-refused, text-read}
+use Rattle.to_wide.specs.ConvertedLaws.{prints-same, sheet-begins, script_begins, text_wide, text_refused, text_read}
 use Rattle.to_wide.proofs.convert.Statement.{statement}
 use Rattle.to_wide.proofs.convert.Tie as tie
 
@@ -21,7 +21,7 @@ same_length : tie.Need-same-length
 same_length c = search rules
 
 returns : tie.Need-returns
-returns c = prints-same (text-wide c.before.before.before.before.before.before.before.read.ensures (omega arith) (omega arith) c.before.before.before.before.if1.true) (c.before.before.refuse.ensures c.before.before.before.before.before.before.before.before.before.before.before.before.before.args.second.now)
+returns c = prints-same (text_wide c.before.before.before.before.before.before.before.read.ensures (omega arith) (omega arith) c.before.before.before.before.if1.true) (c.before.before.refuse.ensures c.before.before.before.before.before.before.before.before.before.before.before.before.before.args.second.now)
 
 refuse-requires-2 : tie.Need-refuse-requires-2
 refuse-requires-2 c κs = search rules
@@ -31,7 +31,7 @@ same-length-2 c = search rules
 
 returns-2 : tie.Need-returns-2
 returns-2 c =
-    prints-same (text-refused c.before.before.before.before.before.before.before.before.before.read.ensures (omega arith) (omega arith) c.before.before.before.before.before.before.if1.false c.before.before.before.before.if2.true) (c.before.before.refuse2.ensures c.before.before.before.before.before.before.before.before.before.before.before.before.before.before.before.args.second.now)
+    prints-same (text_refused c.before.before.before.before.before.before.before.before.before.read.ensures (omega arith) (omega arith) c.before.before.before.before.before.before.if1.false c.before.before.before.before.if2.true) (c.before.before.refuse2.ensures c.before.before.before.before.before.before.before.before.before.before.before.before.before.before.before.args.second.now)
 
 array-share-prefix-sheet : tie.Need-array-share-prefix-sheet
 array-share-prefix-sheet c = search rules
@@ -43,13 +43,13 @@ array-share-prefix-script : tie.Need-array-share-prefix-script
 array-share-prefix-script c = search rules
 
 slice-aggregate-convert-sheet-2 : tie.Need-slice-aggregate-convert-sheet-2
-slice-aggregate-convert-sheet-2 c = (script-begins c.before.before.before.before.before.before.before.read.ensures (omega arith) (omega arith)).counted
+slice-aggregate-convert-sheet-2 c = (script_begins c.before.before.before.before.before.before.before.read.ensures (omega arith) (omega arith)).counted
 
 convert-sheet-requires : tie.Need-convert-sheet-requires
 convert-sheet-requires c κs =
     let g = c.before.before.before.before.before.before.before.before.before.read.ensures in
     let p = c.before.before.before.before.before.before.before.before.before.before.before.before.before.before.before.requires in
-    (p.0, p.1, omega (arith, g.script-fits, (script-begins g (omega arith) (omega arith)).counted))
+    (p.0, p.1, omega (arith, g.script-fits, (script_begins g (omega arith) (omega arith)).counted))
 
 same-length-3 : tie.Need-same-length-3
 same-length-3 c = search rules
@@ -59,7 +59,7 @@ same-length-4 c = search rules
 
 returns-3 : tie.Need-returns-3
 returns-3 c =
-    prints-same (text-read c.before.before.before.before.before.before.before.before.before.before.before.before.before.before.read.ensures (omega arith) (omega arith) c.before.before.before.before.before.before.before.before.before.before.before.if1.false c.before.before.before.before.before.before.before.before.before.if2.false) c.before.before.before.before.convert-sheet.ensures
+    prints-same (text_read c.before.before.before.before.before.before.before.before.before.before.before.before.before.before.read.ensures (omega arith) (omega arith) c.before.before.before.before.before.before.before.before.before.before.before.if1.false c.before.before.before.before.before.before.before.before.before.if2.false) c.before.before.before.before.convert-sheet.ensures
 
 pub convert-spec : {M : Type 1} → statement M
 convert-spec =

@@ -1,7 +1,7 @@
 -- `widen::put_frame` meets its contract.
 use native.Mathlib.Omega.{arith}
 use lib.ListN.{length-set}
-use Rattle.words.specs.Stores.{seven-sets}
+use Rattle.words.specs.Stores.{seven_sets}
 use borrow.Author.Rules.{rules}
 use Rattle.widen.proofs.put_frame.Statement.{statement}
 use Rattle.widen.proofs.put_frame.Tie as tie
@@ -49,7 +49,7 @@ same_length : tie.Need-same-length
 same_length c = search rules
 
 returns : tie.Need-returns
-returns c = let a = c.args in seven-sets a.out.now a.at a.k 0 a.a 0 a.b 0 a.c
+returns c = let a = c.args in seven_sets a.out.now a.at a.k 0 a.a 0 a.b 0 a.c
 
 pub put-frame-spec : {M : Type 1} → statement M
 put-frame-spec =

@@ -2,7 +2,7 @@
 use native.Mathlib.Omega.{arith}
 use mathlib.Core.Path.{refl}
 use borrow.Author.Rules.{rules}
-use Rattle.widen.specs.WidenLaws.{widen-refused, widen-short, widen-written}
+use Rattle.widen.specs.WidenLaws.{widen_refused, widen_short, widen_written}
 use Rattle.widen.proofs.widen.Statement.{statement}
 use Rattle.widen.proofs.widen.Tie as tie
 
@@ -16,7 +16,7 @@ returns : tie.Need-returns
 returns c =
     let a = c.before.before.before.before.before.before.args in
     let r = c.refused.ensures in
-    rw (r.0, r.1, r.2) (widen-refused a.sheet.now a.out.now c.before.before.before.check.ensures c.before.if1.true)
+    rw (r.0, r.1, r.2) (widen_refused a.sheet.now a.out.now c.before.before.before.check.ensures c.before.if1.true)
 
 mul-size : tie.Need-overflow-mul-size
 mul-size c = search rules
@@ -28,7 +28,7 @@ returns-2 : tie.Need-returns-2
 returns-2 c =
     let a = c.before.before.before.before.before.before.before.args in
     let r = c.refused2.ensures in
-    rw (r.0, r.1, r.2) (widen-short a.sheet.now a.out.now c.before.before.before.before.check.ensures c.before.before.if1.false (omega arith))
+    rw (r.0, r.1, r.2) (widen_short a.sheet.now a.out.now c.before.before.before.before.check.ensures c.before.before.if1.false (omega arith))
 
 widen-frames-requires : tie.Need-widen-frames-requires
 widen-frames-requires c κs = search rules
@@ -39,7 +39,7 @@ same_length c = search rules
 returns-3 : tie.Need-returns-3
 returns-3 c =
     let a = c.before.before.before.before.before.before.before.before.before.before.args in
-    widen-written a.sheet.now a.out.now c.before.before.before.before.before.before.before.check.ensures c.before.before.before.before.before.if1.false (omega arith) refl c.before.before.widen-frames.ensures
+    widen_written a.sheet.now a.out.now c.before.before.before.before.before.before.before.check.ensures c.before.before.before.before.before.if1.false (omega arith) refl c.before.before.widen-frames.ensures
 
 pub widen_spec : {M : Type 1} → statement M
 widen_spec =

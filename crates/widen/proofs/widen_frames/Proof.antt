@@ -4,13 +4,13 @@ use mathlib.Core.Path.{◌≡◌, refl, sym, ◌∙◌}
 use native.Mathlib.Omega.{arith}
 use lib.ListN.{length}
 use lib.Seq.{sets}
-use Rattle.widen.specs.Widen.{widenedTo}
+use Rattle.widen.specs.Widen.{widened_to}
 use Rattle.widen.specs.WidenLaws.{widened_none, widened-next, widened-all}
 use Rattle.widen.proofs.widen_frames.Statement.{statement}
 use Rattle.widen.proofs.widen_frames.Tie as tie
 
 abbrev invariant-loop : tie.invariant-loop
-invariant-loop sheet out₀ n k₀ out k = (k ≤ n) × (out ≡ sets out₀ 0 (widenedTo sheet k)) × (length out ≡ length out₀)
+invariant-loop sheet out₀ n k₀ out k = (k ≤ n) × (out ≡ sets out₀ 0 (widened_to sheet k)) × (length out ≡ length out₀)
 
 abbrev decreases-loop : tie.decreases-loop
 decreases-loop sheet out₀ n k₀ out k = n - k

@@ -4,7 +4,7 @@ use Prim.Native.Nat.{◌-◌, ◌≤◌}
 use mathlib.Core.Path.{◌≡◌, refl, ◌∙◌}
 use lib.ListN.{length, length-set}
 use Rattle.absorb.specs.Cone.{FreeTable}
-use Rattle.absorb.specs.ConeLaws.{near-at, free-none, free-next}
+use Rattle.absorb.specs.ConeLaws.{near_at, free-none, free-next}
 use Rattle.absorb.proofs.cone.free_words.Statement.{statement}
 use Rattle.absorb.proofs.cone.free_words.Tie as tie
 
@@ -24,7 +24,7 @@ free-word-requires : tie.Need-free-word-requires invariant-loop decreases-loop
 free-word-requires c κs =
     let pre = c.before.before.before.before.before.before.requires in
     let loop = c.before.before.before.loop in
-    near-at pre.0 c.before.Node-at.ensures.0 (omega (arith, pre.2, loop.invariant.2))
+    near_at pre.0 c.before.Node-at.ensures.0 (omega (arith, pre.2, loop.invariant.2))
 
 mul_words : tie.Need-overflow-mul-words invariant-loop decreases-loop
 mul_words c = omega (arith, c.before.before.before.before.before.before.before.requires.2, c.before.before.before.before.loop.invariant.2)

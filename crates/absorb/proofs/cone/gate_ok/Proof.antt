@@ -3,13 +3,13 @@ use native.Mathlib.Omega.{arith}
 use mathlib.Core.Path.{refl}
 use mathlib.Core.Bool.{false}
 use Rattle.words.specs.Logic.{clash}
-use Rattle.absorb.specs.ConeLaws.{gate-fixed, gate-reads, gate-flips, gate-joins}
+use Rattle.absorb.specs.ConeLaws.{gate_fixed, gate-reads, gate_flips, gate-joins}
 use Rattle.absorb.proofs.cone.gate_ok.Statement.{statement}
 use Rattle.absorb.proofs.cone.gate_ok.Tie as tie
 
 returns : tie.Need-returns
 returns c =
-    λ e. gate-fixed c.before.before.args.y c.before.before.args.slots.now c.before.before.args.node.op c.before.before.args.node.left c.before.before.args.node.right c.before.before.args.node.mask c.if1.true
+    λ e. gate_fixed c.before.before.args.y c.before.before.args.slots.now c.before.before.args.node.op c.before.before.args.node.left c.before.before.args.node.right c.before.before.args.node.mask c.if1.true
 
 returns-2 : tie.Need-returns-2
 returns-2 c = λ e. clash false e refl
@@ -31,7 +31,7 @@ returns-5 c = λ e. clash false e refl
 returns-6 : tie.Need-returns-6
 returns-6 c =
     let args = c.before.before.before.before.before.before.before.before.before.before.args in
-    λ e. gate-flips args.y args.slots.now args.node.op args.node.left args.node.right args.node.mask c.if6.true (omega (
+    λ e. gate_flips args.y args.slots.now args.node.op args.node.left args.node.right args.node.mask c.if6.true (omega (
       arith,
       c.before.before.if5.false,
     ))

@@ -7,7 +7,7 @@ use lib.ListN.{length, length-set}
 use borrow.Author.Tests.{not-false}
 use Rattle.words.specs.Logic.{clash}
 use Rattle.absorb.specs.Cone.{LaneTable}
-use Rattle.absorb.specs.ConeLaws.{near-at, lane-none, lane-next}
+use Rattle.absorb.specs.ConeLaws.{near_at, lane-none, lane-next}
 use Rattle.absorb.proofs.cone.lanes.Statement.{statement}
 use Rattle.absorb.proofs.cone.lanes.Tie as tie
 
@@ -26,7 +26,7 @@ node-at-requires c κs = omega (arith, c.before.before.before.before.before.befo
 place-ok-requires : tie.Need-place-ok-requires invariant-loop decreases-loop
 place-ok-requires c κs =
     let pre = c.before.before.before.before.before.before.before.requires in
-    (near-at pre.0 c.Node-at.ensures.0 (omega (arith, pre.2)), omega (arith, pre.2), pre.3)
+    (near_at pre.0 c.Node-at.ensures.0 (omega (arith, pre.2)), omega (arith, pre.2), pre.3)
 
 same_length : tie.Need-same-length invariant-loop decreases-loop
 same_length c = c.before.before.before.before.loop.invariant.2
@@ -42,7 +42,7 @@ lane-at-requires c κs =
     let pre = c.before.before.before.before.before.before.before.before.before.before.before.requires in
     let Node-at = c.before.before.before.before.Node-at in
     let loop = c.before.before.before.before.before.before.loop in
-    near-at pre.0 Node-at.ensures.0 (omega (arith, pre.4, loop.invariant.2))
+    near_at pre.0 Node-at.ensures.0 (omega (arith, pre.4, loop.invariant.2))
 
 mul_words : tie.Need-overflow-mul-words invariant-loop decreases-loop
 mul_words c =

@@ -2,12 +2,12 @@
 use native.Mathlib.Omega.{arith}
 use Prim.Native.Nat.{◌≤◌}
 use borrow.Author.Rules.{rules}
-use Rattle.net.specs.Layout.{framesOf}
+use Rattle.net.specs.Layout.{frames_of}
 use Rattle.absorb.proofs.propose.binder.Statement.{statement}
 use Rattle.absorb.proofs.propose.binder.Tie as tie
 
 abbrev invariant-loop : tie.invariant-loop
-invariant-loop net g y k₀ k = k ≤ framesOf net
+invariant-loop net g y k₀ k = k ≤ frames_of net
 
 abbrev decreases-loop : tie.decreases-loop
 decreases-loop net g y k₀ k = k

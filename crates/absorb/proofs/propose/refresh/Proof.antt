@@ -1,7 +1,7 @@
 -- `absorb::propose::refresh` meets its contract. Assumes nothing.
 use native.Mathlib.Omega.{arith}
 use borrow.Author.Rules.{rules}
-use Rattle.absorb.specs.ConeLaws.{near-at}
+use Rattle.absorb.specs.ConeLaws.{near_at}
 use Rattle.absorb.proofs.propose.refresh.Statement.{statement}
 use Rattle.absorb.proofs.propose.refresh.Tie as tie
 
@@ -9,7 +9,7 @@ node-at-requires : tie.Need-node-at-requires
 node-at-requires c κs = search rules
 
 free-word-requires : tie.Need-free-word-requires
-free-word-requires c κs = near-at c.before.before.before.before.requires.0 c.before.Node-at.ensures.0 (omega (arith, c.before.before.before.before.requires.2))
+free-word-requires c κs = near_at c.before.before.before.before.requires.0 c.before.Node-at.ensures.0 (omega (arith, c.before.before.before.before.requires.2))
 
 mul-frees : tie.Need-overflow-mul-frees
 mul-frees c = search rules

@@ -10,7 +10,7 @@ use Rattle.net.specs.Net.{frees}
 use Rattle.net.specs.Layout.{packed}
 use Rattle.absorb.specs.Absorb.{Spares}
 use Rattle.absorb.specs.Marks.{Marking}
-use Rattle.absorb.specs.MarksLaws.{marking-none, marking-next, marks-inside}
+use Rattle.absorb.specs.MarksLaws.{marking_none, marking_next, marks_inside}
 use Rattle.absorb.proofs.region.inside.Statement.{statement}
 use Rattle.absorb.proofs.region.inside.Tie as tie
 
@@ -21,7 +21,7 @@ abbrev decreases-loop : tie.decreases-loop
 decreases-loop net body g y f marks₀ k₀ marks k = body + 1 - k
 
 loop-holds : tie.Need-loop-init invariant-loop decreases-loop
-loop-holds c = (omega arith, marking-none _, refl)
+loop-holds c = (omega arith, marking_none _, refl)
 
 spoils-requires : tie.Need-spoils-requires invariant-loop decreases-loop
 spoils-requires c κs =
@@ -45,7 +45,7 @@ loop-again c =
     let pre = c.before.before.before.before.before.before.before.requires in
     let loop = c.before.before.before.before.loop in (
       omega arith,
-      marking-next pre.0.0.ordered loop.invariant.1 (omega (arith, pre.0.3, loop.invariant.2)) (λ e. c.before.spoils.ensures (c.flag.ensures e)),
+      marking_next pre.0.0.ordered loop.invariant.1 (omega (arith, pre.0.3, loop.invariant.2)) (λ e. c.before.spoils.ensures (c.flag.ensures e)),
       length-set loop.marks loop.k c.flag.result ∙ loop.invariant.2,
     )
 
@@ -59,7 +59,7 @@ returns : tie.Need-returns invariant-loop decreases-loop
 returns c =
     let pre = c.before.before.before.before.before.before.requires in
     let loop = c.before.before.before.loop in
-    λ e. marks-inside pre.0.0.ordered loop.marks loop.invariant.1 (omega arith) c.if1.true
+    λ e. marks_inside pre.0.0.ordered loop.marks loop.invariant.1 (omega arith) c.if1.true
 
 same-length-2 : tie.Need-same-length-2 invariant-loop decreases-loop
 same-length-2 c = c.before.before.before.loop.invariant.2

@@ -4,13 +4,13 @@ use mathlib.Core.Path.{refl}
 use mathlib.Core.Bool.{true}
 use Rattle.words.specs.Logic.{clash}
 use Rattle.absorb.specs.Marks.{unmarked}
-use Rattle.absorb.specs.MarksLaws.{marked-unmarked, names-leaf, names-flips, names-binds, names-joins}
+use Rattle.absorb.specs.MarksLaws.{marked-unmarked, names_leaf, names_flips, names-binds, names-joins}
 use Rattle.absorb.proofs.region.names_marked.Statement.{statement}
 use Rattle.absorb.proofs.region.names_marked.Tie as tie
 
 returns : tie.Need-returns
 returns c =
-    λ e. names-leaf c.before.before.args.node.op c.before.before.args.node.left c.before.before.args.node.right c.before.before.args.node.mask (unmarked c.before.before.args.marks.now) c.if1.true
+    λ e. names_leaf c.before.before.args.node.op c.before.before.args.node.left c.before.before.args.node.right c.before.before.args.node.mask (unmarked c.before.before.args.marks.now) c.if1.true
 
 shared-slice-read-if2 : tie.Need-shared-slice-read-if2
 shared-slice-read-if2 c = c.before.before.before.requires.one (omega arith)
@@ -21,7 +21,7 @@ returns-2 c = λ e. clash true refl e
 returns-3 : tie.Need-returns-3
 returns-3 c =
     let args = c.before.before.before.before.before.before.args in
-    λ e. names-flips args.node.op args.node.left args.node.right args.node.mask (unmarked args.marks.now) c.if3.true (marked-unmarked args.marks.now _ (omega (
+    λ e. names_flips args.node.op args.node.left args.node.right args.node.mask (unmarked args.marks.now) c.if3.true (marked-unmarked args.marks.now _ (omega (
       arith,
       c.before.before.if2.false,
     )))

@@ -9,7 +9,7 @@ use borrow.Author.Rules.{rules}
 use Rattle.words.specs.Logic.{clash}
 use Rattle.net.specs.Layout.{packed}
 use Rattle.absorb.specs.Marks.{Marking}
-use Rattle.absorb.specs.MarksLaws.{marking-none, marking-next, marks-outside}
+use Rattle.absorb.specs.MarksLaws.{marking_none, marking_next, marks_outside}
 use Rattle.absorb.proofs.region.outside.Statement.{statement}
 use Rattle.absorb.proofs.region.outside.Tie as tie
 
@@ -23,7 +23,7 @@ frames-requires : tie.Need-frames-requires invariant-loop decreases-loop
 frames-requires c κs = omega (arith, c.before.before.requires.0.room)
 
 loop-holds : tie.Need-loop-init invariant-loop decreases-loop
-loop-holds c = (omega arith, marking-none _, refl)
+loop-holds c = (omega arith, marking_none _, refl)
 
 sees-requires : tie.Need-sees-requires invariant-loop decreases-loop
 sees-requires c κs =
@@ -53,7 +53,7 @@ loop-again c =
     let loop = c.before.before.before.before.loop in
     let frames = c.before.before.before.before.before.frames in (
       omega arith,
-      marking-next pre.0.ordered loop.invariant.1 (omega (arith, pre.3, loop.invariant.2, frames.ensures)) (λ e. c.before.sees.ensures (c.flag.ensures e)),
+      marking_next pre.0.ordered loop.invariant.1 (omega (arith, pre.3, loop.invariant.2, frames.ensures)) (λ e. c.before.sees.ensures (c.flag.ensures e)),
       length-set loop.marks loop.k c.flag.result ∙ loop.invariant.2,
     )
 
@@ -74,7 +74,7 @@ returns c =
     let frames = c.before.before.before.before.frames in
     let pre = c.before.before.before.before.before.before.before.requires in
     let loop = c.before.before.before.loop in
-    λ e. rw frames.ensures at (marks-outside pre.0.ordered loop.marks loop.invariant.1 (omega (arith, pre.2, frames.ensures)) c.if1.true pre.1)
+    λ e. rw frames.ensures at (marks_outside pre.0.ordered loop.marks loop.invariant.1 (omega (arith, pre.2, frames.ensures)) c.if1.true pre.1)
 
 same-length-2 : tie.Need-same-length-2 invariant-loop decreases-loop
 same-length-2 c = c.before.before.before.loop.invariant.2

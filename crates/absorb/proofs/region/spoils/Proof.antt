@@ -4,7 +4,7 @@ use mathlib.Core.Path.{refl}
 use mathlib.Core.Bool.{true}
 use borrow.Author.Tests.{not-false, eq-eqb}
 use Rattle.words.specs.Logic.{clash}
-use Rattle.absorb.specs.ConeLaws.{near-at}
+use Rattle.absorb.specs.ConeLaws.{near_at}
 use Rattle.absorb.proofs.region.spoils.Statement.{statement}
 use Rattle.absorb.proofs.region.spoils.Tie as tie
 
@@ -24,7 +24,7 @@ names-marked-requires : tie.Need-names-marked-requires
 names-marked-requires c κs =
     let pre = c.before.before.before.before.before.before.requires in
     let Node-at = c.before.before.Node-at in
-    near-at pre.0.0 Node-at.ensures.0 pre.0.3
+    near_at pre.0.0 Node-at.ensures.0 pre.0.3
 
 returns-3 : tie.Need-returns-3
 returns-3 c =

@@ -4,7 +4,7 @@ use mathlib.Core.Path.{refl, sym, ◌∙◌, ap}
 use mathlib.Core.Bool.{true, not}
 use Rattle.words.specs.Logic.{clash}
 use Rattle.net.specs.Layout.{changed, names-below, joins-right}
-use Rattle.absorb.specs.MarksLaws.{names-leaf, names-flips, names-binds, names-joins}
+use Rattle.absorb.specs.MarksLaws.{names_leaf, names_flips, names-binds, names-joins}
 use Rattle.absorb.specs.Spread.{still}
 use Rattle.absorb.proofs.spread.names_changed.Statement.{statement}
 use Rattle.absorb.proofs.spread.names_changed.Tie as tie
@@ -16,7 +16,7 @@ returns : tie.Need-returns
 returns c =
     let Node-at = c.before.before.Node-at in
     let args = c.before.before.before.before.args in
-    λ e. rw Node-at.ensures.0.node (names-leaf Node-at.result.op Node-at.result.left Node-at.result.right Node-at.result.mask (still args.net.now) c.if1.true)
+    λ e. rw Node-at.ensures.0.node (names_leaf Node-at.result.op Node-at.result.left Node-at.result.right Node-at.result.mask (still args.net.now) c.if1.true)
 
 changed-requires : tie.Need-changed-requires
 changed-requires c κs =
@@ -33,7 +33,7 @@ returns-3 c =
     let Node-at = c.before.before.before.before.before.before.Node-at in
     let args = c.before.before.before.before.before.before.before.before.args in
     let changed = c.before.before.before.changed in
-    λ e. rw Node-at.ensures.0.node (names-flips Node-at.result.op Node-at.result.left Node-at.result.right Node-at.result.mask (still args.net.now) c.if3.true (ap not (sym changed.ensures) ∙ ap not c.before.before.if2.false))
+    λ e. rw Node-at.ensures.0.node (names_flips Node-at.result.op Node-at.result.left Node-at.result.right Node-at.result.mask (still args.net.now) c.if3.true (ap not (sym changed.ensures) ∙ ap not c.before.before.if2.false))
 
 returns-4 : tie.Need-returns-4
 unfolding still

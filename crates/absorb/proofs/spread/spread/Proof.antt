@@ -2,7 +2,7 @@
 use native.Mathlib.Omega.{arith}
 use Prim.Native.Nat.{◌-◌, ◌≤◌}
 use Rattle.absorb.specs.Spread.{Spreading}
-use Rattle.absorb.specs.SpreadLaws.{noted-ground, spreading-none, spreading-next}
+use Rattle.absorb.specs.SpreadLaws.{noted_ground, spreading_none, spreading_next}
 use Rattle.absorb.proofs.spread.spread.Statement.{statement}
 use Rattle.absorb.proofs.spread.spread.Tie as tie
 
@@ -16,13 +16,13 @@ frames-requires : tie.Need-frames-requires invariant-loop decreases-loop
 frames-requires c κs = omega (arith, c.before.before.requires.room)
 
 loop-holds : tie.Need-loop-init invariant-loop decreases-loop
-loop-holds c = (omega arith, spreading-none _)
+loop-holds c = (omega arith, spreading_none _)
 
 spread-at-requires : tie.Need-spread-at-requires invariant-loop decreases-loop
 spread-at-requires c κs =
     let pre = c.before.before.before.before.before.before.requires in
     let frames = c.before.before.before.frames in
-    (noted-ground pre c.before.before.loop.invariant.1.noted, omega (arith, c.before.before.loop.invariant.1.noted.count, frames.ensures))
+    (noted_ground pre c.before.before.loop.invariant.1.noted, omega (arith, c.before.before.loop.invariant.1.noted.count, frames.ensures))
 
 add-k : tie.Need-overflow-add-k invariant-loop decreases-loop
 add-k c = omega arith
@@ -35,7 +35,7 @@ loop-again c =
     let pre = c.before.before.before.before.before.before.before.before.before.requires in
     let loop = c.before.before.before.before.before.loop in
     let spread_at = c.before.before.spread_at in
-    (omega arith, spreading-next (noted-ground pre loop.invariant.1.noted).ordered loop.invariant.1 spread_at.ensures)
+    (omega arith, spreading_next (noted_ground pre loop.invariant.1.noted).ordered loop.invariant.1 spread_at.ensures)
 
 same_length : tie.Need-same-length invariant-loop decreases-loop
 same_length c = c.before.loop.invariant.1.noted.long

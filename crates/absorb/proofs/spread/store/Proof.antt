@@ -1,7 +1,7 @@
 -- `absorb::spread::store` meets its contract. Assumes nothing.
 use native.Mathlib.Omega.{arith}
 use mathlib.Core.Path.{refl, ◌∙◌}
-use Rattle.absorb.specs.SheetLaws.{stored-ground, absorbed-net}
+use Rattle.absorb.specs.SheetLaws.{stored_ground, absorbed_net}
 use Rattle.absorb.proofs.spread.store.Statement.{statement}
 use Rattle.absorb.proofs.spread.store.Tie as tie
 
@@ -21,7 +21,7 @@ spread-requires : tie.Need-spread-requires
 spread-requires c κs =
     let pre = c.before.before.before.before.before.before.requires in
     let put = c.before.before.before.put in
-    stored-ground pre.0.1 pre.1 refl (record { is = put.ensures })
+    stored_ground pre.0.1 pre.1 refl (record { is = put.ensures })
 
 same_length : tie.Need-same-length
 same_length c = c.before.net2.given ∙ c.before.before.before.before.before.net.given
@@ -31,7 +31,7 @@ returns c =
     let pre = c.before.before.before.before.before.before.before.before.before.requires in
     let put = c.before.before.before.before.before.before.put in
     let spread = c.before.before.spread in
-    λ s N. absorbed-net N pre.1 refl (record { is = put.ensures }) spread.ensures refl
+    λ s N. absorbed_net N pre.1 refl (record { is = put.ensures }) spread.ensures refl
 
 pub store_spec : {M : Type 1} → statement M
 store_spec =

@@ -8,7 +8,7 @@ use lib.ListN.{length, drop}
 use Rattle.dimacs.specs.Token.{tokens}
 use Rattle.dimacs.specs.TokenLaws.{tokens-taken, tokens_none}
 use Rattle.dimacs.specs.Row.{mentions}
-use Rattle.dimacs.specs.RowSteps.{mentions-none, mentions-other-row, mentions-other-variable, mentions-here}
+use Rattle.dimacs.specs.RowSteps.{mentions-none, mentions-other_row, mentions-other-variable, mentions-here}
 use Rattle.dimacs.proofs.atoms.mentions.Statement.{statement}
 use Rattle.dimacs.proofs.atoms.mentions.Tie as tie
 
@@ -56,7 +56,7 @@ loop-again c =
       l.invariant.1
           ∙ ⊎_elim
           (λ w. mentions-other-variable s r v w.0.taken w.1.ensures w.2.left)
-          (λ w. mentions-other-row s r v w.left)
+          (λ w. mentions-other_row s r v w.left)
           c.before.if1.branch,
     )
 

@@ -6,14 +6,14 @@ use mathlib.Core.Path.{◌≡◌, refl, sym, ◌∙◌}
 use lib.ListN.{length, drop}
 use Rattle.dimacs.specs.Token.{tokens}
 use Rattle.dimacs.specs.TokenLaws.{tokens-taken, tokens_none}
-use Rattle.dimacs.specs.Row.{header, properAtoms}
-use Rattle.dimacs.specs.RowSteps.{proper-none, proper-other-row, proper-zero, proper-next, proper-fails}
+use Rattle.dimacs.specs.Row.{header, proper_atoms}
+use Rattle.dimacs.specs.RowSteps.{proper-none, proper-other_row, proper-zero, proper-next, proper-fails}
 use Rattle.dimacs.proofs.atoms.proper_atoms.Statement.{statement}
 use Rattle.dimacs.proofs.atoms.proper_atoms.Tie as tie
 
 abbrev invariant-loop : tie.invariant-loop
 invariant-loop text from row₀ at₀ row at =
-    (at ≤ length text) × (properAtoms header (tokens (drop from text)) ≡ properAtoms row (tokens (drop at text)))
+    (at ≤ length text) × (proper_atoms header (tokens (drop from text)) ≡ proper_atoms row (tokens (drop at text)))
 
 abbrev decreases-loop : tie.decreases-loop
 decreases-loop text from row₀ at₀ row at = length text - at
@@ -75,7 +75,7 @@ loop-again-3 c =
     let k = c.before.before.before.next.ensures in
     let s = tokens-taken k in
     let r = c.before.row-after.ensures in
-    (k.within, l.invariant.1 ∙ proper-other-row s r c.if1.false)
+    (k.within, l.invariant.1 ∙ proper-other_row s r c.if1.false)
 
 returns-2 : tie.Need-returns-2 invariant-loop decreases-loop
 returns-2 c =

@@ -6,13 +6,13 @@ use mathlib.Core.Bool.{false}
 use mathlib.Core.Logic.{⊎_elim}
 use mathlib.Core.Path.{◌≡◌, refl, sym, ◌∙◌}
 use lib.ListN.{length, drop}
-use Rattle.dimacs.specs.Token.{behindComments}
-use Rattle.dimacs.specs.FieldLaws.{comments-none, comments-inside, comments-start, comments-stop}
+use Rattle.dimacs.specs.Token.{behind_comments}
+use Rattle.dimacs.specs.FieldLaws.{comments_none, comments_inside, comments_start, comments_stop}
 use Rattle.dimacs.proofs.comments.behind_comments.Statement.{statement}
 use Rattle.dimacs.proofs.comments.behind_comments.Tie as tie
 
 abbrev invariant-loop : tie.invariant-loop
-invariant-loop text inside₀ at₀ inside at = (behindComments false text ≡ behindComments inside (drop at text)) × (at ≤ length text)
+invariant-loop text inside₀ at₀ inside at = (behind_comments false text ≡ behind_comments inside (drop at text)) × (at ≤ length text)
 
 abbrev decreases-loop : tie.decreases-loop
 decreases-loop text inside₀ at₀ inside at = length text - at
@@ -28,7 +28,7 @@ returns c =
     let l = c.before.before.before.before.loop in
     let text = c.before.before.before.before.before.args.text.now in
     let t = c.before.before.before.loop-test.true in
-    (sym (l.invariant.0 ∙ rw c.before.if1.false (comments-stop text l.at t c.if2.true)), l.invariant.1)
+    (sym (l.invariant.0 ∙ rw c.before.if1.false (comments_stop text l.at t c.if2.true)), l.invariant.1)
 
 add_at : tie.Need-overflow-add-at invariant-loop decreases-loop
 add_at c = search rules
@@ -42,8 +42,8 @@ loop-again c =
     let text = c.before.before.before.before.args.text.now in
     let t = c.before.before.loop-test.true in (
       ⊎_elim
-          (λ w. l.invariant.0 ∙ rw (w.0.taken, w.1) (comments-inside text l.at t))
-          (λ w. l.invariant.0 ∙ rw (w.0.left, w.2) (comments-start text l.at t w.1.left))
+          (λ w. l.invariant.0 ∙ rw (w.0.taken, w.1) (comments_inside text l.at t))
+          (λ w. l.invariant.0 ∙ rw (w.0.left, w.2) (comments_start text l.at t w.1.left))
           c.if1.branch,
       omega (arith, t),
     )
@@ -51,7 +51,7 @@ loop-again c =
 returns-2 : tie.Need-returns-2 invariant-loop decreases-loop
 returns-2 c =
     let l = c.before.loop in
-    (sym (l.invariant.0 ∙ comments-none l.inside c.before.before.args.text.now l.at c.loop-test.false), l.invariant.1)
+    (sym (l.invariant.0 ∙ comments_none l.inside c.before.before.args.text.now l.at c.loop-test.false), l.invariant.1)
 
 pub behind-comments-spec : {M : Type 1} → statement M
 behind-comments-spec =

@@ -7,21 +7,21 @@ use mathlib.Core.Path.{◌∙◌}
 use lib.ListN.{length, drop}
 use Rattle.dimacs.specs.Token.{tokens}
 use Rattle.dimacs.specs.TokenLaws.{tokens-taken, tokens_none}
-use Rattle.dimacs.specs.Row.{header, wordsFrom}
-use Rattle.dimacs.specs.RowSteps.{words-none, words-other-row, words-atom, words-next, Storing, storing-start, storing-same, storing-next, storing-end, storing-length}
+use Rattle.dimacs.specs.Row.{header, words_from}
+use Rattle.dimacs.specs.RowSteps.{words_none, words_other_row, words_atom, words_next, Storing, storing_start, storing_same, storing_next, storing-end, storing_length}
 use Rattle.dimacs.proofs.decode.blocks.Statement.{statement}
 use Rattle.dimacs.proofs.decode.blocks.Tie as tie
 
 abbrev invariant-loop : tie.invariant-loop
 invariant-loop text from words₀ n₀ word₀ row₀ at₀ words n word row at =
     (at ≤ length text) × (n ≤ at)
-    × Storing words₀ (wordsFrom header 0 (tokens (drop from text))) words n (wordsFrom row word (tokens (drop at text)))
+    × Storing words₀ (words_from header 0 (tokens (drop from text))) words n (words_from row word (tokens (drop at text)))
 
 abbrev decreases-loop : tie.decreases-loop
 decreases-loop text from words₀ n₀ word₀ row₀ at₀ words n word row at = length text - at
 
 loop-holds : tie.Need-loop-init invariant-loop decreases-loop
-loop-holds c = (c.before.before.requires, omega arith, storing-start _ _)
+loop-holds c = (c.before.before.requires, omega arith, storing_start _ _)
 
 next-requires : tie.Need-next-requires invariant-loop decreases-loop
 next-requires c κs = c.loop-test.true
@@ -59,28 +59,28 @@ loop-again c =
     (λ w. (
       k.within,
       omega (arith, l.invariant.1, k.onward, w.8),
-      storing-next l.invariant.2 (words-next s r l.word w.0.taken w.1.ensures w.2.taken w.9) (w.7 ∙ w.4.ensures) w.8,
+      storing_next l.invariant.2 (words_next s r l.word w.0.taken w.1.ensures w.2.taken w.9) (w.7 ∙ w.4.ensures) w.8,
     ))
     (⊎_elim
     (λ w. (
       k.within,
       omega (arith, l.invariant.1, k.onward, w.6),
-      storing-same l.invariant.2 (words-atom s r l.word w.0.taken w.1.ensures w.2.left w.3.ensures w.4.ensures w.7) w.5 w.6,
+      storing_same l.invariant.2 (words_atom s r l.word w.0.taken w.1.ensures w.2.left w.3.ensures w.4.ensures w.7) w.5 w.6,
     ))
     (λ w. (
       k.within,
       omega (arith, l.invariant.1, k.onward, w.2),
-      storing-same l.invariant.2 (words-other-row s r l.word w.0.left w.3) w.1 w.2,
+      storing_same l.invariant.2 (words_other_row s r l.word w.0.left w.3) w.1 w.2,
     )))
     c.before.if1.branch
 
 same_length : tie.Need-same-length invariant-loop decreases-loop
-same_length c = storing-length c.before.loop.invariant.2
+same_length c = storing_length c.before.loop.invariant.2
 
 returns : tie.Need-returns invariant-loop decreases-loop
 returns c =
     let l = c.before.loop in
-    storing-end l.invariant.2 (rw (tokens_none c.before.before.before.before.args.text.now l.at c.loop-test.false) (words-none l.row l.word))
+    storing-end l.invariant.2 (rw (tokens_none c.before.before.before.before.args.text.now l.at c.loop-test.false) (words_none l.row l.word))
 
 pub blocks-spec : {M : Type 1} → statement M
 blocks-spec =

@@ -7,21 +7,21 @@ use mathlib.Core.Path.{◌∙◌}
 use lib.ListN.{length, drop}
 use Rattle.dimacs.specs.Token.{tokens}
 use Rattle.dimacs.specs.TokenLaws.{tokens-taken, tokens_none}
-use Rattle.dimacs.specs.Row.{header, codesFrom}
-use Rattle.dimacs.specs.RowSteps.{codes-none, codes-other-row, codes-mark, codes-next, Storing, storing-start, storing-same, storing-next, storing-end, storing-length}
+use Rattle.dimacs.specs.Row.{header, codes_from}
+use Rattle.dimacs.specs.RowSteps.{codes_none, codes_other_row, codes_mark, codes_next, Storing, storing_start, storing_same, storing_next, storing-end, storing_length}
 use Rattle.dimacs.proofs.decode.clauses.Statement.{statement}
 use Rattle.dimacs.proofs.decode.clauses.Tie as tie
 
 abbrev invariant-loop : tie.invariant-loop
 invariant-loop text from codes₀ n₀ row₀ at₀ codes n row at =
     (at ≤ length text) × (n ≤ at)
-    × Storing codes₀ (codesFrom header (tokens (drop from text))) codes n (codesFrom row (tokens (drop at text)))
+    × Storing codes₀ (codes_from header (tokens (drop from text))) codes n (codes_from row (tokens (drop at text)))
 
 abbrev decreases-loop : tie.decreases-loop
 decreases-loop text from codes₀ n₀ row₀ at₀ codes n row at = length text - at
 
 loop-holds : tie.Need-loop-init invariant-loop decreases-loop
-loop-holds c = (c.before.before.requires, omega arith, storing-start _ _)
+loop-holds c = (c.before.before.requires, omega arith, storing_start _ _)
 
 next-requires : tie.Need-next-requires invariant-loop decreases-loop
 next-requires c κs = c.loop-test.true
@@ -56,24 +56,24 @@ loop-again c =
     (λ w. (
       k.within,
       omega (arith, l.invariant.1, k.onward, w.9),
-      storing-next l.invariant.2 (codes-next s r w.0.taken w.1.ensures w.2.taken w.4.ensures) (w.8 ∙ w.5.ensures) w.9,
+      storing_next l.invariant.2 (codes_next s r w.0.taken w.1.ensures w.2.taken w.4.ensures) (w.8 ∙ w.5.ensures) w.9,
     ))
     (⊎_elim
     (λ w. (
       k.within,
       omega (arith, l.invariant.1, k.onward, w.4),
-      storing-same l.invariant.2 (codes-mark s r w.0.taken w.1.ensures w.2.left) w.3 w.4,
+      storing_same l.invariant.2 (codes_mark s r w.0.taken w.1.ensures w.2.left) w.3 w.4,
     ))
-    (λ w. (k.within, omega (arith, l.invariant.1, k.onward, w.2), storing-same l.invariant.2 (codes-other-row s r w.0.left) w.1 w.2)))
+    (λ w. (k.within, omega (arith, l.invariant.1, k.onward, w.2), storing_same l.invariant.2 (codes_other_row s r w.0.left) w.1 w.2)))
     c.before.if1.branch
 
 same_length : tie.Need-same-length invariant-loop decreases-loop
-same_length c = storing-length c.before.loop.invariant.2
+same_length c = storing_length c.before.loop.invariant.2
 
 returns : tie.Need-returns invariant-loop decreases-loop
 returns c =
     let l = c.before.loop in
-    storing-end l.invariant.2 (rw (tokens_none c.before.before.before.before.args.text.now l.at c.loop-test.false) (codes-none l.row))
+    storing-end l.invariant.2 (rw (tokens_none c.before.before.before.before.args.text.now l.at c.loop-test.false) (codes_none l.row))
 
 pub clauses-spec : {M : Type 1} → statement M
 clauses-spec =

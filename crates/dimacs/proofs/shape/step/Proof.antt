@@ -1,6 +1,6 @@
 -- `dimacs::shape::step` meets its contract: each arm is the definition's at its phase. Assumes nothing.
 use borrow.Author.Rules.{rules}
-use Rattle.dimacs.specs.Shape.{step, stepIn}
+use Rattle.dimacs.specs.Shape.{step, step_in}
 use Rattle.dimacs.proofs.shape.step.Statement.{statement}
 use Rattle.dimacs.proofs.shape.step.Tie as tie
 
@@ -107,56 +107,56 @@ enum-told-13 : tie.Need-enum-told-13
 enum-told-13 c = search rules
 
 returns : tie.Need-returns
-unfolding step stepIn
+unfolding step step_in
 returns c = rw (c.before.before.enum_told.given.1, ← c.before.mark_of.ensures) c.expect.ensures
 
 returns-2 : tie.Need-returns-2
-unfolding step stepIn
+unfolding step step_in
 returns-2 c = rw (c.before.before.enum-told2.given.1, ← c.before.mark-of2.ensures) c.expect2.ensures
 
 returns-3 : tie.Need-returns-3
-unfolding step stepIn
+unfolding step step_in
 returns-3 c = rw (c.before.before.enum-told3.given.1, ← c.before.number_of_lem.ensures) c.at-variables.ensures
 
 returns-4 : tie.Need-returns-4
-unfolding step stepIn
+unfolding step step_in
 returns-4 c = rw (c.before.before.enum-told4.given.1, ← c.before.number-of2.ensures) c.at_count.ensures
 
 returns-5 : tie.Need-returns-5
-unfolding step stepIn
+unfolding step step_in
 returns-5 c = rw (c.before.before.enum-told5.given.1, ← c.before.mark-of3.ensures) c.expect3.ensures
 
 returns-6 : tie.Need-returns-6
-unfolding step stepIn
+unfolding step step_in
 returns-6 c = rw c.before.enum-told6.given.1 c.row-start.ensures
 
 returns-7 : tie.Need-returns-7
-unfolding step stepIn
+unfolding step step_in
 returns-7 c =
     rw (c.before.before.before.enum-told7.given.1, ← c.before.before.number-of3.ensures, ← c.before.in-range.ensures) c.expect4.ensures
 
 returns-8 : tie.Need-returns-8
-unfolding step stepIn
+unfolding step step_in
 returns-8 c = rw c.before.enum-told8.given.1 c.at-atom.ensures
 
 returns-9 : tie.Need-returns-9
-unfolding step stepIn
+unfolding step step_in
 returns-9 c = rw (c.before.before.enum-told9.given.1, ← c.before.mark-of4.ensures) c.expect5.ensures
 
 returns-10 : tie.Need-returns-10
-unfolding step stepIn
+unfolding step step_in
 returns-10 c = rw c.before.enum-told10.given.1 c.clause-start.ensures
 
 returns-11 : tie.Need-returns-11
-unfolding step stepIn
+unfolding step step_in
 returns-11 c = rw c.before.enum-told11.given.1 c.at_literal.ensures
 
 returns-12 : tie.Need-returns-12
-unfolding step stepIn
+unfolding step step_in
 returns-12 c = rw (c.before.before.enum-told12.given.1, ← c.before.mark-of5.ensures) c.at-clause-end.ensures
 
 returns-13 : tie.Need-returns-13
-unfolding step stepIn
+unfolding step step_in
 returns-13 c = rw c.enum-told13.given.1
 
 pub step_spec : {M : Type 1} → statement M

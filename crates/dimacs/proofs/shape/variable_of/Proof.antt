@@ -5,7 +5,7 @@ use mathlib.Core.List.{List, [], ◌∷◌}
 use mathlib.Core.Path.{◌≡◌, refl, sym, ap}
 use denote.Enum.Declared.{tag_of}
 use types.Run.{OneOf, miss}
-use Rattle.dimacs.specs.Shape.{variableOf}
+use Rattle.dimacs.specs.Shape.{variable_of}
 use Rattle.dimacs.specs.declared.token.Token.{Token}
 use Rattle.dimacs.specs.declared.token.Token.TheVariants.{Line, Problem, Format, Exists, Forall, Number, Negative, Other}
 use Rattle.dimacs.specs.contracts.token.Token.{the_type}
@@ -19,19 +19,19 @@ enum-known-t-2 : tie.Need-enum-known-t-2
 enum-known-t-2 c = search rules
 
 returns : tie.Need-returns
-unfolding variableOf
-returns c = sym (ap variableOf c.before.t.given.1)
+unfolding variable_of
+returns c = sym (ap variable_of c.before.t.given.1)
 
 returns-2 : tie.Need-returns-2
-unfolding variableOf
-returns-2 c = sym (ap variableOf c.before.t2.given.1)
+unfolding variable_of
+returns-2 c = sym (ap variable_of c.before.t2.given.1)
 
 -- the variants of the last arm
 abbrev others : List ℕ
 others = 0 ∷ 1 ∷ 2 ∷ 3 ∷ 4 ∷ 7 ∷ []
 
-none : (t : Token) → OneOf others (tag_of the_type t) → 0 ≡ variableOf t
-unfolding variableOf
+none : (t : Token) → OneOf others (tag_of the_type t) → 0 ≡ variable_of t
+unfolding variable_of
 none Line k = refl
 none Problem k = refl
 none Format k = refl

@@ -6,15 +6,15 @@ use mathlib.Core.Logic.{⊎_elim}
 use mathlib.Core.Path.{◌≡◌, sym, ◌∙◌}
 use lib.ListN.{get_or}
 use lib.Seq.{slice}
-use Rattle.dimacs.specs.Token.{noNumber, decimalFrom}
+use Rattle.dimacs.specs.Token.{no_number, decimal_from}
 use Rattle.dimacs.specs.Token as Field
-use Rattle.dimacs.specs.FieldLaws.{decimal-none, decimal-leading, decimal-short, decimal-long, with-digit-most, digits-none, digits-stop, digits-go}
+use Rattle.dimacs.specs.FieldLaws.{decimal-none, decimal_leading, decimal-short, decimal-long, with_digit-most, digits-none, digits_stop, digits-go}
 use Rattle.dimacs.proofs.token.decimal.Statement.{statement}
 use Rattle.dimacs.proofs.token.decimal.Tie as tie
 
 abbrev invariant-loop : tie.invariant-loop
 invariant-loop text from to value₀ at₀ value at =
-    (at ≤ to) × (value < noNumber) × (Field.decimal (slice from to text) ≡ decimalFrom value (slice at to text))
+    (at ≤ to) × (value < no_number) × (Field.decimal (slice from to text) ≡ decimal_from value (slice at to text))
 
 abbrev decreases-loop : tie.decreases-loop
 decreases-loop text from to value₀ at₀ value at = to - at
@@ -33,7 +33,7 @@ returns-2 c =
     let p = c.before.before.before.before.before in
     let a = p.args in
     let t = c.before.before.if2.true in
-    sym (decimal-leading a.text.now a.from a.to (omega (arith, t)) p.requires.1 t c.if3.true)
+    sym (decimal_leading a.text.now a.from a.to (omega (arith, t)) p.requires.1 t c.if3.true)
 
 loop-holds : tie.Need-loop-init invariant-loop decreases-loop
 loop-holds c =
@@ -58,7 +58,7 @@ returns-3 c =
     let l = c.before.before.before.before.loop in
     let p = c.before.before.before.before.before.before.before.before in
     let t = c.before.before.before.loop-test.true in
-    sym (l.invariant.2 ∙ digits-stop p.args.text.now l.at p.args.to t p.requires.1 l.value c.before.with-digit.ensures c.if4.true)
+    sym (l.invariant.2 ∙ digits_stop p.args.text.now l.at p.args.to t p.requires.1 l.value c.before.with-digit.ensures c.if4.true)
 
 add_at : tie.Need-overflow-add-at invariant-loop decreases-loop
 add_at c = search rules
@@ -74,7 +74,7 @@ loop-again c =
     let t = c.before.before.before.loop-test.true in
     let e = c.before.with-digit.ensures in (
       omega (arith, t),
-      omega (arith, e, with-digit-most l.value (get_or text l.at 0), c.if4.false),
+      omega (arith, e, with_digit-most l.value (get_or text l.at 0), c.if4.false),
       l.invariant.2 ∙ digits-go text l.at p.args.to t p.requires.1 l.value e c.if4.false,
     )
 

@@ -2,7 +2,7 @@
 use borrow.Author.Rules.{rules}
 use mathlib.Core.Path.{ap, ◌∙◌}
 use borrow.Author.Tests.{ne_eqb}
-use Rattle.dimacs.specs.Token.{letterToken, numberToken}
+use Rattle.dimacs.specs.Token.{letter_token, number_token}
 use Rattle.dimacs.proofs.token.letter_token.Statement.{statement}
 use Rattle.dimacs.proofs.token.letter_token.Tie as tie
 
@@ -13,23 +13,23 @@ number-token-requires : tie.Need-number-token-requires
 number-token-requires c κs = search rules
 
 returns : tie.Need-returns
-unfolding letterToken
+unfolding letter_token
 returns c = rw c.match.keys1
 
 returns-2 : tie.Need-returns-2
-unfolding letterToken
+unfolding letter_token
 returns-2 c = rw c.match.keys2
 
 returns-3 : tie.Need-returns-3
-unfolding letterToken
+unfolding letter_token
 returns-3 c = rw c.match.keys3
 
 returns-4 : tie.Need-returns-4
-unfolding letterToken
+unfolding letter_token
 returns-4 c =
     let b = c.before.before.before.args.b in
     let r = c.before.before.match.rest in
-    c.number-token.ensures ∙ ap numberToken c.before.with-digit.ensures
+    c.number-token.ensures ∙ ap number_token c.before.with-digit.ensures
     ∙ rw (ne_eqb b 112 r.0.0.1, ne_eqb b 101 r.0.1, ne_eqb b 97 r.1)
 
 pub letter-token-spec : {M : Type 1} → statement M

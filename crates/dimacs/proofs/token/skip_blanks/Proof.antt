@@ -5,13 +5,13 @@ use native.Mathlib.Omega.{arith}
 use mathlib.Core.Path.{◌≡◌, refl, sym, ◌∙◌}
 use lib.ListN.{length, drop}
 use borrow.Author.Tests.{not-true, not-false}
-use Rattle.dimacs.specs.Token.{afterBlanks}
-use Rattle.dimacs.specs.FieldLaws.{blanks-none, blanks-stop, blanks-go}
+use Rattle.dimacs.specs.Token.{after_blanks}
+use Rattle.dimacs.specs.FieldLaws.{blanks_none, blanks_stop, blanks_go}
 use Rattle.dimacs.proofs.token.skip_blanks.Statement.{statement}
 use Rattle.dimacs.proofs.token.skip_blanks.Tie as tie
 
 abbrev invariant-loop : tie.invariant-loop
-invariant-loop text from at₀ at = (afterBlanks (drop from text) ≡ afterBlanks (drop at text)) × (from ≤ at) × (at ≤ length text)
+invariant-loop text from at₀ at = (after_blanks (drop from text) ≡ after_blanks (drop at text)) × (from ≤ at) × (at ≤ length text)
 
 abbrev decreases-loop : tie.decreases-loop
 decreases-loop text from at₀ at = length text - at
@@ -30,7 +30,7 @@ returns c =
     let l = c.before.before.before.before.loop in
     let a = c.before.before.before.before.before.before.args in
     let e = sym c.before.blank.ensures ∙ not-true _ c.if1.true in
-    (sym (l.invariant.0 ∙ blanks-stop a.text.now l.at c.before.before.before.loop-test.true e), l.invariant.1, l.invariant.2)
+    (sym (l.invariant.0 ∙ blanks_stop a.text.now l.at c.before.before.before.loop-test.true e), l.invariant.1, l.invariant.2)
 
 add_at : tie.Need-overflow-add-at invariant-loop decreases-loop
 add_at c = search rules
@@ -44,13 +44,13 @@ loop-again c =
     let a = c.before.before.before.before.before.before.args in
     let t = c.before.before.before.loop-test.true in
     let e = sym c.before.blank.ensures ∙ not-false _ c.if1.false in
-    (l.invariant.0 ∙ blanks-go a.text.now l.at t e, omega (arith, l.invariant.1), omega (arith, t))
+    (l.invariant.0 ∙ blanks_go a.text.now l.at t e, omega (arith, l.invariant.1), omega (arith, t))
 
 returns-2 : tie.Need-returns-2 invariant-loop decreases-loop
 returns-2 c =
     let l = c.before.loop in
     let a = c.before.before.before.args in
-    (sym (l.invariant.0 ∙ blanks-none a.text.now l.at c.loop-test.false), l.invariant.1, l.invariant.2)
+    (sym (l.invariant.0 ∙ blanks_none a.text.now l.at c.loop-test.false), l.invariant.1, l.invariant.2)
 
 pub skip-blanks-spec : {M : Type 1} → statement M
 skip-blanks-spec =

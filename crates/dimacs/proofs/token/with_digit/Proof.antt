@@ -1,16 +1,16 @@
 -- `token::with_digit` meets its contract: the tests of the code are those of the definition. Assumes nothing.
 use borrow.Author.Rules.{rules}
 use borrow.Author.Tests.{lt-leb, le-leb, lt-ltb, le-ltb}
-use Rattle.dimacs.specs.Token.{digit, withDigit}
+use Rattle.dimacs.specs.Token.{digit, with_digit}
 use Rattle.dimacs.proofs.token.with_digit.Statement.{statement}
 use Rattle.dimacs.proofs.token.with_digit.Tie as tie
 
 returns : tie.Need-returns
-unfolding withDigit digit
+unfolding with_digit digit
 returns c = rw (lt-leb 48 c.before.args.b c.if1.true)
 
 returns-2 : tie.Need-returns-2
-unfolding withDigit digit
+unfolding with_digit digit
 returns-2 c = let b = c.before.before.args.b in rw (le-leb 48 b c.before.if1.false, lt-leb b 57 c.if2.true)
 
 mul-wider : tie.Need-overflow-mul-wider
@@ -29,13 +29,13 @@ cast-result : tie.Need-overflow-cast-result
 cast-result c = search rules
 
 returns-3 : tie.Need-returns-3
-unfolding withDigit digit
+unfolding with_digit digit
 returns-3 c =
     let b = c.before.before.before.args.b in
     rw (le-leb 48 b c.before.before.if1.false, le-leb b 57 c.before.if2.false, lt-ltb _ _ c.if3.true)
 
 returns-4 : tie.Need-returns-4
-unfolding withDigit digit
+unfolding with_digit digit
 returns-4 c =
     let b = c.before.before.before.args.b in
     rw (le-leb 48 b c.before.before.if1.false, le-leb b 57 c.before.if2.false, le-ltb _ _ c.if3.false)

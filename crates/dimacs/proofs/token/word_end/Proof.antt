@@ -4,7 +4,7 @@ use Prim.Native.Nat.{◌-◌, ◌≤◌}
 use native.Mathlib.Omega.{arith}
 use mathlib.Core.Path.{sym, ◌∙◌}
 use lib.ListN.{length}
-use Rattle.dimacs.specs.FieldLaws.{SameEnd, word_none, word-stop, word-go}
+use Rattle.dimacs.specs.FieldLaws.{SameEnd, word_none, word_stop, word-go}
 use Rattle.dimacs.proofs.token.word_end.Statement.{statement}
 use Rattle.dimacs.proofs.token.word_end.Tie as tie
 
@@ -28,7 +28,7 @@ returns c =
     let l = c.before.before.before.before.loop in
     let a = c.before.before.before.before.before.before.args in
     let e = sym c.before.separates.ensures ∙ c.if1.true in
-    let w = word-stop a.text.now l.at c.before.before.before.loop-test.true e in
+    let w = word_stop a.text.now l.at c.before.before.before.loop-test.true e in
     (l.invariant.2 l.at (omega arith) l.invariant.1 w, l.invariant.0, l.invariant.1)
 
 add_at : tie.Need-overflow-add-at invariant-loop decreases-loop

@@ -2,7 +2,7 @@
 use native.Mathlib.Omega.{arith}
 use mathlib.Core.Path.{refl}
 use borrow.Author.Rules.{rules}
-use Rattle.judge.specs.Cells.{value_of, reasonOf}
+use Rattle.judge.specs.Cells.{value_of, reason_of}
 use Rattle.judge.proofs.cells.known_at.Statement.{statement}
 use Rattle.judge.proofs.cells.known_at.Tie as tie
 
@@ -28,7 +28,7 @@ shared-slice-read-t12 : tie.Need-shared-slice-read-t12
 shared-slice-read-t12 c = search rules
 
 returns : tie.Need-returns
-unfolding value_of reasonOf
+unfolding value_of reason_of
 returns c = (refl, refl, omega arith)
 
 pub known-at-spec : {M : Type 1} → statement M

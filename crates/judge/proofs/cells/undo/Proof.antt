@@ -2,7 +2,7 @@
 use mathlib.Core.Path.{◌≡◌, refl, ◌∙◌}
 use lib.ListN.{length}
 use borrow.Author.Rules.{rules}
-use Rattle.judge.specs.CellLaws.{Undone, some, undone-start, undone-here, undone-less, undone-step, undone-end}
+use Rattle.judge.specs.CellLaws.{Undone, some, undone_start, undone_here, undone_less, undone_step, undone-end}
 use Rattle.judge.proofs.cells.undo.Statement.{statement}
 use Rattle.judge.proofs.cells.undo.Tie as tie
 
@@ -13,13 +13,13 @@ abbrev decreases-loop : tie.decreases-loop
 decreases-loop cells₀ head at₀ cells at = some cells
 
 loop-holds : tie.Need-loop-init invariant-loop decreases-loop
-loop-holds c = (undone-start c.before.requires, refl)
+loop-holds c = (undone_start c.before.requires, refl)
 
 index-requires : tie.Need-index-requires invariant-loop decreases-loop
 index-requires c κs = search rules
 
 unset-requires : tie.Need-unset-requires invariant-loop decreases-loop
-unset-requires c κs = undone-here c.before.before.before.loop.invariant.0 c.index.ensures c.before.before.loop-test.true
+unset-requires c κs = undone_here c.before.before.before.loop.invariant.0 c.index.ensures c.before.before.loop-test.true
 
 loop-less : tie.Need-loop-smaller invariant-loop decreases-loop
 loop-less c =
@@ -27,7 +27,7 @@ loop-less c =
     let index° = c.before.before.before.index in
     let loop-test° = c.before.before.before.before.before.loop-test in
     let unset° = c.before.before.unset in
-    undone-less loop°.invariant.0 index°.ensures loop-test°.true unset°.ensures.0
+    undone_less loop°.invariant.0 index°.ensures loop-test°.true unset°.ensures.0
 
 loop-again : tie.Need-loop-preserved invariant-loop decreases-loop
 loop-again c =
@@ -36,7 +36,7 @@ loop-again c =
     let loop-test° = c.before.before.before.before.before.loop-test in
     let unset° = c.before.before.unset in
     let cells° = c.before.cells in
-    (undone-step loop°.invariant.0 index°.ensures loop-test°.true unset°.ensures.0 unset°.ensures.1, cells°.given ∙ loop°.invariant.1)
+    (undone_step loop°.invariant.0 index°.ensures loop-test°.true unset°.ensures.0 unset°.ensures.1, cells°.given ∙ loop°.invariant.1)
 
 same_length : tie.Need-same-length invariant-loop decreases-loop
 same_length c = c.before.loop.invariant.1

@@ -3,7 +3,7 @@ use native.Mathlib.Omega.{arith}
 use mathlib.Core.Path.{◌≡◌, refl, ◌∙◌}
 use lib.ListN.{length}
 use borrow.Author.Rules.{rules}
-use Rattle.words.specs.Mask.{top-less}
+use Rattle.words.specs.Mask.{top_less}
 use Rattle.judge.proofs.dirty.mark_readers.Statement.{statement}
 use Rattle.judge.proofs.dirty.mark_readers.Tie as tie
 
@@ -31,7 +31,7 @@ without-requires : tie.Need-without-requires invariant-loop decreases-loop
 without-requires c κs = search rules
 
 loop-less : tie.Need-loop-smaller invariant-loop decreases-loop
-loop-less c = top-less c.before.before.before.before.before.before.highest.ensures.0 c.before.one.ensures c.without.ensures
+loop-less c = top_less c.before.before.before.before.before.before.highest.ensures.0 c.before.one.ensures c.without.ensures
 
 loop-again : tie.Need-loop-preserved invariant-loop decreases-loop
 loop-again c = c.before.before.before.marks.given ∙ c.before.before.before.before.before.before.before.before.loop.invariant

@@ -5,7 +5,7 @@ use mathlib.Core.Logic.{⊎_elim}
 use mathlib.Core.Path.{◌≡◌, refl, ◌∙◌}
 use lib.ListN.{length}
 use Rattle.judge.specs.Judge.{Judging}
-use Rattle.judge.specs.JudgeLaws.{judging-none, judging-then}
+use Rattle.judge.specs.JudgeLaws.{judging_none, judging_then}
 use Rattle.judge.proofs.forward.judge_all.Statement.{statement}
 use Rattle.judge.proofs.forward.judge_all.Tie as tie
 
@@ -17,7 +17,7 @@ abbrev decreases-loop : tie.decreases-loop
 decreases-loop net a cube cells₀ head k₀ at₀ cells k at = a + 1 - k
 
 loop-holds : tie.Need-loop-init invariant-loop decreases-loop
-loop-holds c = (judging-none c.before.before.requires.2, refl)
+loop-holds c = (judging_none c.before.before.requires.2, refl)
 
 vacant-requires : tie.Need-vacant-requires invariant-loop decreases-loop
 vacant-requires c κs =
@@ -43,7 +43,7 @@ loop-again : tie.Need-loop-preserved invariant-loop decreases-loop
 loop-again c =
     let loop° = c.before.before.before.before.loop in
     ⊎_elim
-    (λ w. rw (w.5, w.6) (judging-then loop°.invariant.0 w.2.ensures, w.3.given ∙ loop°.invariant.1))
+    (λ w. rw (w.5, w.6) (judging_then loop°.invariant.0 w.2.ensures, w.3.given ∙ loop°.invariant.1))
     (λ w. rw (w.1, w.2) loop°.invariant)
     c.if1.branch
 

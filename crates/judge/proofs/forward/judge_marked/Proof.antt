@@ -4,7 +4,7 @@ use native.Mathlib.Omega.{arith}
 use mathlib.Core.Path.{◌≡◌, refl, ◌∙◌}
 use lib.ListN.{length}
 use Rattle.judge.specs.Judge.{Judging}
-use Rattle.judge.specs.JudgeLaws.{judging-none, judging-then}
+use Rattle.judge.specs.JudgeLaws.{judging_none, judging_then}
 use Rattle.judge.proofs.forward.judge_marked.Statement.{statement}
 use Rattle.judge.proofs.forward.judge_marked.Tie as tie
 
@@ -27,7 +27,7 @@ next-requires c κs =
     (omega (arith, p.1, p.0.few), omega (arith, p.3, c.before.before.before.before.before.before.marks.given, c.before.before.marks2.given))
 
 loop-holds : tie.Need-loop-init invariant-loop decreases-loop
-loop-holds c = (judging-none c.before.before.before.before.before.before.before.before.before.before.before.before.before.requires.2, refl, refl)
+loop-holds c = (judging_none c.before.before.before.before.before.before.before.before.before.before.before.before.before.requires.2, refl, refl)
 
 judge-next-requires : tie.Need-judge-next-requires invariant-loop decreases-loop
 judge-next-requires c κs =
@@ -55,7 +55,7 @@ loop-less c = omega (arith, c.next2.ensures)
 loop-again : tie.Need-loop-preserved invariant-loop decreases-loop
 loop-again c =
     let i = c.before.before.before.before.before.before.before.before.before.before.before.loop.invariant in
-    (judging-then i.0 c.before.before.before.before.before.before.before.before.judge-next.ensures, c.before.before.before.before.before.before.before.cells.given ∙ i.1, c.before.before.before.marks3.given ∙ i.2)
+    (judging_then i.0 c.before.before.before.before.before.before.before.before.judge-next.ensures, c.before.before.before.before.before.before.before.cells.given ∙ i.1, c.before.before.before.marks3.given ∙ i.2)
 
 same_length : tie.Need-same-length invariant-loop decreases-loop
 same_length c = c.before.loop.invariant.1

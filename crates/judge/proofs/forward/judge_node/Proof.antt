@@ -3,7 +3,7 @@ use native.Mathlib.Omega.{arith}
 use mathlib.Core.Path.{refl}
 use borrow.Author.Rules.{rules}
 use Rattle.net.specs.Layout.{reads-low, names-below, joins-right}
-use Rattle.judge.specs.JudgeLaws.{right-leaf, right-not, right-gate, right-binds, judged-at}
+use Rattle.judge.specs.JudgeLaws.{right_leaf, right-not, right-gate, right-binds, judged-at}
 use Rattle.judge.proofs.forward.judge_node.Statement.{statement}
 use Rattle.judge.proofs.forward.judge_node.Tie as tie
 
@@ -20,7 +20,7 @@ returns : tie.Need-returns
 returns c =
     let pre° = c.before.before.before.before.before.requires in
     let node-at° = c.before.before.Node-at in
-    right-leaf pre°.0 node-at°.ensures.0 c.before.if1.true c.leaf.ensures
+    right_leaf pre°.0 node-at°.ensures.0 c.before.if1.true c.leaf.ensures
 
 known-at-requires : tie.Need-known-at-requires
 known-at-requires c κs =

@@ -1,7 +1,7 @@
 -- `judge::forward::judge_vacant` meets its contract. Assumes nothing.
 use native.Mathlib.Omega.{arith}
 use borrow.Author.Rules.{rules}
-use Rattle.judge.specs.JudgeLaws.{judging-put}
+use Rattle.judge.specs.JudgeLaws.{judging_put}
 use Rattle.judge.proofs.forward.judge_vacant.Statement.{statement}
 use Rattle.judge.proofs.forward.judge_vacant.Tie as tie
 
@@ -28,7 +28,7 @@ returns-2 c =
     let pre° = c.before.before.before.before.before.before.before.before.before.before.requires in
     let judge-node° = c.before.before.before.before.before.before.judge-node in
     let if1° = c.before.before.before.before.if1 in
-    judging-put (omega (arith, pre°.1, pre°.2.long)) (omega (arith, pre°.1, pre°.0.few)) pre°.2 pre°.3
+    judging_put (omega (arith, pre°.1, pre°.2.long)) (omega (arith, pre°.1, pre°.0.few)) pre°.2 pre°.3
     (omega (arith, if1°.false)) judge-node°.ensures c.before.before.put.ensures
 
 pub judge-vacant-spec : {M : Type 1} → statement M

@@ -1,6 +1,6 @@
 -- `judge::forward::keep` meets its contract. Assumes nothing.
 use borrow.Author.Rules.{rules}
-use Rattle.judge.specs.JudgeLaws.{judging-put}
+use Rattle.judge.specs.JudgeLaws.{judging_put}
 use Rattle.judge.proofs.forward.keep.Statement.{statement}
 use Rattle.judge.proofs.forward.keep.Tie as tie
 
@@ -19,7 +19,7 @@ returns c net m w j f =
     let vacant° = c.before.before.before.before.before.vacant in
     let if1° = c.before.before.before.before.if1 in
     let put° = c.before.before.put in
-    judging-put pre°.0 pre°.1 j (vacant°.ensures if1°.true) pre°.2 f put°.ensures
+    judging_put pre°.0 pre°.1 j (vacant°.ensures if1°.true) pre°.2 f put°.ensures
 
 same-length-2 : tie.Need-same-length-2
 same-length-2 c = search rules

@@ -4,7 +4,7 @@ use native.Mathlib.Omega.{arith}
 use mathlib.Core.Logic.{⊎_elim}
 use mathlib.Core.Path.{◌≡◌, refl, sym, ◌∙◌}
 use lib.ListN.{length}
-use Rattle.lanes.specs.FillLaws.{filled_none, filled_next, filled-skip, filled-ripe}
+use Rattle.lanes.specs.FillLaws.{filled_none, filled_next, filled_skip, filled_ripe}
 use Rattle.lanes.specs.Fill.{Filled}
 use Rattle.lanes.proofs.fill.fill.Statement.{statement}
 use Rattle.lanes.proofs.fill.fill.Tie as tie
@@ -31,7 +31,7 @@ next-requires c κs =
     let p = c.before.before.before.before.before.before.before.before.before.requires in
     let t = loop-test°.true in
     let i = loop°.invariant in
-    (p.0, omega (arith, p.1, t), omega (arith, p.2, t, i.1), p.4, filled-ripe i.0 p.0 p.5 t (sym marked°.ensures ∙ c.before.if1.true))
+    (p.0, omega (arith, p.1, t), omega (arith, p.2, t, i.1), p.4, filled_ripe i.0 p.0 p.5 t (sym marked°.ensures ∙ c.before.if1.true))
 
 add-k : tie.Need-overflow-add-k invariant-loop decreases-loop
 add-k c =
@@ -47,7 +47,7 @@ loop-again c =
     let i = c.before.before.before.loop.invariant in
     ⊎_elim
     (λ w. rw w.5 (filled_next i.0 (omega arith) w.2.ensures, w.3.given ∙ i.1))
-    (λ w. rw w.1 (filled-skip i.0 (omega arith) (sym c.before.marked.ensures ∙ w.0.left), i.1))
+    (λ w. rw w.1 (filled_skip i.0 (omega arith) (sym c.before.marked.ensures ∙ w.0.left), i.1))
     c.if1.branch
 
 same_length : tie.Need-same-length invariant-loop decreases-loop

@@ -3,7 +3,7 @@ use native.Mathlib.Omega.{arith}
 use mathlib.Core.Path.{sym, ◌∙◌}
 use borrow.Author.Rules.{rules}
 use Rattle.net.specs.Layout.{val}
-use Rattle.lanes.specs.FillLaws.{added, row-known}
+use Rattle.lanes.specs.FillLaws.{added, row_known}
 use Rattle.lanes.proofs.fill.next.Statement.{statement}
 use Rattle.lanes.proofs.fill.next.Tie as tie
 
@@ -29,7 +29,7 @@ returns c =
     let constant° = c.before.before.before.before.constant in
     let keep° = c.before.before.keep in
     added keep°.ensures pre°.2
-    (row-known args°.k pre°.3 known-at°.ensures.0 known-at°.ensures.1 (omega (arith, if1°.true)) constant°.ensures)
+    (row_known args°.k pre°.3 known-at°.ensures.0 known-at°.ensures.1 (omega (arith, if1°.true)) constant°.ensures)
 
 row-of-requires : tie.Need-row-of-requires
 row-of-requires c κs =

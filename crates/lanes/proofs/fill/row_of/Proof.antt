@@ -3,7 +3,7 @@ use native.Mathlib.Omega.{arith}
 use mathlib.Core.Path.{refl}
 use borrow.Author.Rules.{rules}
 use Rattle.net.specs.Layout.{reads-low, names-below, joins-right}
-use Rattle.lanes.specs.FillLaws.{row-fixed, row_reads, row-flips, row-and, row-or, plain}
+use Rattle.lanes.specs.FillLaws.{row_fixed, row_reads, row_flips, row_and, row_or, plain}
 use Rattle.lanes.proofs.fill.row_of.Statement.{statement}
 use Rattle.lanes.proofs.fill.row_of.Tie as tie
 
@@ -17,7 +17,7 @@ returns : tie.Need-returns
 returns c =
     let pre° = c.before.before.before.before.before.requires in
     let node-at° = c.before.before.Node-at in
-    row-fixed pre°.0 node-at°.ensures.0 c.before.if1.true refl c.constant.ensures
+    row_fixed pre°.0 node-at°.ensures.0 c.before.if1.true refl c.constant.ensures
 
 variable-requires : tie.Need-variable-requires
 variable-requires c κs =
@@ -53,7 +53,7 @@ returns-3 c =
     let node-at° = c.before.before.before.before.before.Node-at in
     let row-at° = c.before.before.row_at in
     let n = c.negated.ensures in
-    row-flips pre°.0 node-at°.ensures.0 pre°.3 c.before.if3.true row-at°.ensures n.0 n.1 n.2
+    row_flips pre°.0 node-at°.ensures.0 pre°.3 c.before.if3.true row-at°.ensures n.0 n.1 n.2
 
 row-at-requires-2 : tie.Need-row-at-requires-2
 row-at-requires-2 c κs =
@@ -71,7 +71,7 @@ returns-4 c =
     let row-at° = c.before.before.before.before.row_at in
     let if4° = c.before.before.if4 in
     let b = c.both.ensures in
-    row-and pre°.0 node-at°.ensures.0 pre°.3 row-at°.ensures c.before.row-at2.ensures if4°.true b.0 b.1 b.2
+    row_and pre°.0 node-at°.ensures.0 pre°.3 row-at°.ensures c.before.row-at2.ensures if4°.true b.0 b.1 b.2
 
 row-at-requires-3 : tie.Need-row-at-requires-3
 row-at-requires-3 c κs =
@@ -96,7 +96,7 @@ returns-5 c =
     let if4° = c.before.before.if4 in
     let p = plain pre°.0 node-at°.ensures.0 pre°.3 in
     let b = c.either.ensures in
-    row-or pre°.0 node-at°.ensures.0 pre°.3 row-at°.ensures c.before.row-at3.ensures (omega (arith, p, if1°.false, if2°.false, if3°.false, if4°.false)) b.0 b.1 b.2
+    row_or pre°.0 node-at°.ensures.0 pre°.3 row-at°.ensures c.before.row-at3.ensures (omega (arith, p, if1°.false, if2°.false, if3°.false, if4°.false)) b.0 b.1 b.2
 
 pub row-of-spec : {M : Type 1} → statement M
 row-of-spec =

@@ -4,7 +4,7 @@ use native.Mathlib.Omega.{arith}
 use mathlib.Core.Path.{◌≡◌, refl, sym, ◌∙◌}
 use lib.ListN.{length}
 use Rattle.words.specs.Logic.{clash}
-use Rattle.lanes.specs.MarksLaws.{joined-here, closed-start, closed-next, closed-skip, closed_all}
+use Rattle.lanes.specs.MarksLaws.{joined-here, closed_start, closed_next, closed_skip, closed_all}
 use Rattle.lanes.specs.Marks.{Closed}
 use Rattle.lanes.proofs.marks.live.Statement.{statement}
 use Rattle.lanes.proofs.marks.live.Tie as tie
@@ -27,7 +27,7 @@ loop-holds : tie.Need-loop-init invariant-loop decreases-loop
 loop-holds c =
     let pre° = c.before.before.before.before.before.before.before.requires in
     let mark° = c.before.before.mark in
-    (closed-start (omega arith) (rw mark°.ensures (joined-here _ _ pre°.3)), omega arith, refl)
+    (closed_start (omega arith) (rw mark°.ensures (joined-here _ _ pre°.3)), omega arith, refl)
 
 sub-k : tie.Need-overflow-sub-k invariant-loop decreases-loop
 sub-k c = omega (arith, c.loop-test.true)
@@ -71,7 +71,7 @@ loop-again c =
     let i = loop°.invariant in
     let t = loop-test°.true in
     let s = spread°.ensures c.before.if2.false in
-    (closed-next pre°.0 (omega (arith, t)) i.0 (omega (arith, t, i.1)) s.0 s.1, omega (arith, i.1), marks2°.given ∙ i.2)
+    (closed_next pre°.0 (omega (arith, t)) i.0 (omega (arith, t, i.1)) s.0 s.1, omega (arith, i.1), marks2°.given ∙ i.2)
 
 loop-less-2 : tie.Need-loop-smaller-2 invariant-loop decreases-loop
 loop-less-2 c = omega (arith, c.before.before.before.loop-test.true)
@@ -81,7 +81,7 @@ loop-again-2 c =
     let loop° = c.before.before.before.before.loop in
     let loop-test° = c.before.before.before.loop-test in
     let i = loop°.invariant in
-    (closed-skip (omega (arith, loop-test°.true)) i.0 (sym c.before.marked.ensures ∙ c.if1.false), omega (arith, i.1), i.2)
+    (closed_skip (omega (arith, loop-test°.true)) i.0 (sym c.before.marked.ensures ∙ c.if1.false), omega (arith, i.1), i.2)
 
 same-length-2 : tie.Need-same-length-2 invariant-loop decreases-loop
 same-length-2 c = c.before.loop.invariant.2 ∙ c.before.before.before.marks.given

@@ -6,7 +6,7 @@ use mathlib.Core.Path.{refl, sym, ◌∙◌}
 use borrow.Author.Rules.{rules}
 use Rattle.words.specs.Logic.{clash}
 use Rattle.net.specs.Layout.{reads-low, names-below, joins-left, joins-right}
-use Rattle.lanes.specs.MarksLaws.{raised-none, founded-fixed, founded-reads, spread-flips, spread-joins}
+use Rattle.lanes.specs.MarksLaws.{raised_none, founded_fixed, founded_reads, spread_flips, spread-joins}
 use Rattle.lanes.proofs.marks.spread.Statement.{statement}
 use Rattle.lanes.proofs.marks.spread.Tie as tie
 
@@ -17,7 +17,7 @@ returns : tie.Need-returns
 returns c =
     let args° = c.before.before.before.before.before.before.args in
     let known-at° = c.before.before.known_at_lem in
-    λ e. (raised-none args°.k _, λ z. absurd (c.if1.true (known-at°.ensures.0 ∙ z)))
+    λ e. (raised_none args°.k _, λ z. absurd (c.if1.true (known-at°.ensures.0 ∙ z)))
 
 node-at-requires : tie.Need-node-at-requires
 node-at-requires c κs = search rules
@@ -26,7 +26,7 @@ returns-2 : tie.Need-returns-2
 returns-2 c =
     let args° = c.before.before.before.before.before.before.before.before.args in
     let pre° = c.before.before.before.before.before.before.before.before.requires in
-    λ e. (raised-none args°.k _, λ z. founded-fixed pre°.0 c.before.Node-at.ensures.0 c.if2.true)
+    λ e. (raised_none args°.k _, λ z. founded_fixed pre°.0 c.before.Node-at.ensures.0 c.if2.true)
 
 variable-requires : tie.Need-variable-requires
 variable-requires c κs =
@@ -46,7 +46,7 @@ returns-3 c =
     let pre° = c.before.before.before.before.before.before.before.before.before.before.before.requires in
     let node-at° = c.before.before.before.before.Node-at in
     let if3° = c.before.before.if3 in
-    λ e. (raised-none args°.k _, λ z. founded-reads pre°.0 node-at°.ensures.0 if3°.true)
+    λ e. (raised_none args°.k _, λ z. founded_reads pre°.0 node-at°.ensures.0 if3°.true)
 
 returns-4 : tie.Need-returns-4
 returns-4 c = λ e. clash false (sym e) refl
@@ -67,7 +67,7 @@ returns-5 c =
     let pre° = c.before.before.before.before.before.before.before.before.before.before.before.before.before.before.before.requires in
     let node-at° = c.before.before.before.before.before.before.before.before.Node-at in
     let mark° = c.before.before.before.mark in
-    λ e. let s = spread-flips pre°.0 node-at°.ensures.0 _ pre°.3 mark°.ensures c.if5.true in (s.0, λ z. s.1)
+    λ e. let s = spread_flips pre°.0 node-at°.ensures.0 _ pre°.3 mark°.ensures c.if5.true in (s.0, λ z. s.1)
 
 mark-requires-2 : tie.Need-mark-requires-2
 mark-requires-2 c κs =

@@ -1,8 +1,8 @@
 -- `lanes::settle::seat` meets its contract: each variable gets the next position. Assumes nothing.
 use Prim.Native.Nat.{◌≤◌}
 use native.Mathlib.Omega.{arith}
-use Rattle.words.specs.Mask.{Sub, top_bit, top-less, bits-sub, sub_refl, sub_trans, without_sub}
-use Rattle.lanes.specs.FillLaws.{seated-set, seated-some}
+use Rattle.words.specs.Mask.{Sub, top_bit, top_less, bits_sub, sub_refl, sub_trans, without_sub}
+use Rattle.lanes.specs.FillLaws.{seated_set, seated_some}
 use Rattle.lanes.specs.Fill.{Seated}
 use Rattle.lanes.proofs.settle.seat.Statement.{statement}
 use Rattle.lanes.proofs.settle.seat.Tie as tie
@@ -17,7 +17,7 @@ loop-holds : tie.Need-loop-init invariant-loop decreases-loop
 loop-holds c = (omega arith, sub_refl c.args.mask, c.requires)
 
 returns : tie.Need-returns invariant-loop decreases-loop
-returns c = seated-some c.before.before.loop.invariant.2
+returns c = seated_some c.before.before.loop.invariant.2
 
 highest-requires : tie.Need-highest-requires invariant-loop decreases-loop
 highest-requires c κs = c.before.loop-test.true
@@ -37,7 +37,7 @@ without-requires c κs = tt
 loop-less : tie.Need-loop-smaller invariant-loop decreases-loop
 loop-less c =
     let highest° = c.before.before.before.before.highest in
-    top-less highest°.ensures.0 c.before.one.ensures c.without.ensures
+    top_less highest°.ensures.0 c.before.one.ensures c.without.ensures
 
 loop-again : tie.Need-loop-preserved invariant-loop decreases-loop
 loop-again c =
@@ -49,11 +49,11 @@ loop-again c =
     let h = highest°.ensures in (
       omega (arith, i.0),
       rw c.without.ensures (sub_trans (without_sub _ _) i.1),
-      rw put-seat°.ensures (seated-set i.2 h.1 (omega (arith, if1°.false)) i.0 (bits-sub i.1 _ (top_bit h.0))),
+      rw put-seat°.ensures (seated_set i.2 h.1 (omega (arith, if1°.false)) i.0 (bits_sub i.1 _ (top_bit h.0))),
     )
 
 returns-2 : tie.Need-returns-2 invariant-loop decreases-loop
-returns-2 c = seated-some c.before.loop.invariant.2
+returns-2 c = seated_some c.before.loop.invariant.2
 
 pub seat-spec : {M : Type 1} → statement M
 seat-spec =

@@ -4,7 +4,7 @@ use mathlib.Core.Bool.{false}
 use mathlib.Core.Path.{refl}
 use borrow.Author.Rules.{rules}
 use Rattle.words.specs.Logic.{clash}
-use Rattle.lanes.specs.FillLaws.{seated-none, row_at}
+use Rattle.lanes.specs.FillLaws.{seated_none, row_at}
 use Rattle.lanes.proofs.settle.solve_marked.Statement.{statement}
 use Rattle.lanes.proofs.settle.solve_marked.Tie as tie
 
@@ -26,7 +26,7 @@ returns-2 : tie.Need-returns-2
 returns-2 c = (λ e. clash false e refl, refl)
 
 seat-requires : tie.Need-seat-requires
-seat-requires c κs = seated-none _ refl
+seat-requires c κs = seated_none _ refl
 
 fill-requires : tie.Need-fill-requires
 fill-requires c κs =
@@ -48,7 +48,7 @@ settle-requires : tie.Need-settle-requires
 settle-requires c κs =
     let p = c.before.before.before.before.before.before.before.before.before.before.before.before.before.before.before.before.before.before.before.before.before.requires.0 in
     let seat° = c.before.before.before.before.before.before.before.before.before.seat in
-    (p.target-some, p.target-low, p.free.clear, seat°.ensures)
+    (p.target_some, p.target_low, p.free.clear, seat°.ensures)
 
 same-length-3 : tie.Need-same-length-3
 same-length-3 c = search rules

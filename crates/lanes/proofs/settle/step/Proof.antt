@@ -1,7 +1,7 @@
 -- `lanes::settle::step` meets its contract. Assumes nothing.
 use borrow.Author.Rules.{rules}
-use Rattle.words.specs.Mask.{top-less}
-use Rattle.lanes.specs.SettleLaws.{onward-idle, onward-same, onward-low, onward-high}
+use Rattle.words.specs.Mask.{top_less}
+use Rattle.lanes.specs.SettleLaws.{onward_idle, onward-same, onward-low, onward-high}
 use Rattle.lanes.proofs.settle.step.Statement.{statement}
 use Rattle.lanes.proofs.settle.step.Tie as tie
 
@@ -22,7 +22,7 @@ returns c =
     let t = c.before.before.before.before.highest.ensures.0 in
     let p = c.before.before.before.one.ensures in
     let e = c.before.before.without.ensures in
-    (top-less t p e, onward-idle t p e)
+    (top_less t p e, onward_idle t p e)
 
 half-requires : tie.Need-half-requires
 half-requires c κs = search rules
@@ -39,7 +39,7 @@ returns-2 c =
     let lane° = c.before.before.before.if1.false in
     let low° = c.before.before.half.ensures in
     let high° = c.before.half2.ensures in
-    (top-less highest° one° without°, onward-same highest° one° without° place-of° lane° low° high° c.if2.true)
+    (top_less highest° one° without°, onward-same highest° one° without° place-of° lane° low° high° c.if2.true)
 
 returns-3 : tie.Need-returns-3
 returns-3 c =
@@ -50,7 +50,7 @@ returns-3 c =
     let lane° = c.before.before.before.before.before.before.before.if1.false in
     let low° = c.before.before.before.before.before.before.half.ensures in
     let high° = c.before.before.before.before.before.half2.ensures in
-    (top-less highest° one° without°, onward-high highest° one° without° place-of° lane° low° high° c.before.before.before.before.if2.false c.before.before.before.if3.true)
+    (top_less highest° one° without°, onward-high highest° one° without° place-of° lane° low° high° c.before.before.before.before.if2.false c.before.before.before.if3.true)
 
 returns-4 : tie.Need-returns-4
 returns-4 c =
@@ -61,7 +61,7 @@ returns-4 c =
     let lane° = c.before.before.before.before.before.before.if1.false in
     let low° = c.before.before.before.before.before.half.ensures in
     let high° = c.before.before.before.before.half2.ensures in
-    (top-less highest° one° without°, onward-low highest° one° without° place-of° lane° low° high° c.before.before.before.if2.false)
+    (top_less highest° one° without°, onward-low highest° one° without° place-of° lane° low° high° c.before.before.before.if2.false)
 
 pub step_spec : {M : Type 1} → statement M
 step_spec =

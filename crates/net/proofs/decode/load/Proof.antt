@@ -3,14 +3,14 @@ use mathlib.Core.Path.{sym}
 use lib.ListN.{length}
 use borrow.Author.Tests.{lt-ltb}
 use Rattle.form.specs.Form.{form_of}
-use Rattle.sheet.specs.Fields.{sheetOf, frames-of}
-use Rattle.net.specs.LoadLaws.{loading-none, loaded-net}
+use Rattle.sheet.specs.Fields.{sheet_of, frames-of}
+use Rattle.net.specs.LoadLaws.{loading_none, loaded_net}
 use borrow.Author.Rules.{rules}
 use Rattle.net.proofs.decode.load.Statement.{statement}
 use Rattle.net.proofs.decode.load.Tie as tie
 
 load-frames-requires : tie.Need-load-frames-requires
-load-frames-requires c κs = let q = c.before.before.before.requires in (loading-none q.0 q.2, sym (lt-ltb 0 _ q.0.some))
+load-frames-requires c κs = let q = c.before.before.before.requires in (loading_none q.0 q.2, sym (lt-ltb 0 _ q.0.some))
 
 of-requires : tie.Need-of-requires
 of-requires c κs = search rules
@@ -25,7 +25,7 @@ nest-requires : tie.Need-nest-requires
 nest-requires c κs =
     let a = c.before.before.before.before.before.before.before.before.before.before.before.before.before.args in
     let n = frames-of (length a.sheet.now) c.before.before.before.before.before.before.of.ensures c.before.before.before.before.frames.ensures in
-    (sheetOf (form_of a.wide) a.sheet.now, loaded-net c.before.before.before.before.before.before.before.before.before.before.before.before.before.requires.0 c.before.before.before.before.before.before.before.before.before.before.before.before.before.requires.1 c.before.before.before.before.before.before.before.before.before.load-frames.ensures n c.before.before.before.head.ensures)
+    (sheet_of (form_of a.wide) a.sheet.now, loaded_net c.before.before.before.before.before.before.before.before.before.before.before.before.before.requires.0 c.before.before.before.before.before.before.before.before.before.before.before.before.before.requires.1 c.before.before.before.before.before.before.before.before.before.load-frames.ensures n c.before.before.before.head.ensures)
 
 same_length : tie.Need-same-length
 same_length c = search rules
@@ -34,8 +34,8 @@ returns : tie.Need-returns
 returns c =
     let a = c.before.before.before.before.before.before.before.before.before.before.before.before.before.before.before.before.args in
     let n = frames-of (length a.sheet.now) c.before.before.before.before.before.before.before.before.before.of.ensures c.before.before.before.before.before.before.before.frames.ensures in
-    c.before.before.nest.ensures (sheetOf (form_of a.wide) a.sheet.now)
-    (loaded-net c.before.before.before.before.before.before.before.before.before.before.before.before.before.before.before.before.requires.0 c.before.before.before.before.before.before.before.before.before.before.before.before.before.before.before.before.requires.1 c.before.before.before.before.before.before.before.before.before.before.before.before.load-frames.ensures n c.before.before.before.before.before.before.head.ensures)
+    c.before.before.nest.ensures (sheet_of (form_of a.wide) a.sheet.now)
+    (loaded_net c.before.before.before.before.before.before.before.before.before.before.before.before.before.before.before.before.requires.0 c.before.before.before.before.before.before.before.before.before.before.before.before.before.before.before.before.requires.1 c.before.before.before.before.before.before.before.before.before.before.before.before.load-frames.ensures n c.before.before.before.before.before.before.head.ensures)
 
 pub load_spec : {M : Type 1} → statement M
 load_spec =

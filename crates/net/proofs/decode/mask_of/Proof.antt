@@ -1,5 +1,5 @@
 -- `net::decode::mask_of` meets its contract, arm by arm. Assumes nothing.
-use Rattle.net.specs.Load.{boundOf}
+use Rattle.net.specs.Load.{bound_of}
 use Rattle.sheet.specs.Frames.{Fit}
 use mathlib.Core.Path.{subst}
 use native.Mathlib.Omega.{arith}
@@ -38,35 +38,35 @@ enum-told-6 : tie.Need-enum-told-6
 enum-told-6 c = search rules
 
 returns : tie.Need-returns
-unfolding boundOf
+unfolding bound_of
 returns c = simp c.enum_told.given.1
 
 returns-2 : tie.Need-returns-2
-unfolding boundOf
+unfolding bound_of
 returns-2 c = simp c.enum-told2.given.1
 
 returns-3 : tie.Need-returns-3
-unfolding boundOf
+unfolding bound_of
 returns-3 c = simp c.enum-told3.given.1
 
 returns-4 : tie.Need-returns-4
-unfolding boundOf
+unfolding bound_of
 returns-4 c = simp c.enum-told4.given.1
 
 returns-5 : tie.Need-returns-5
-unfolding boundOf
+unfolding bound_of
 returns-5 c = simp c.enum-told5.given.1
 
 returns-6 : tie.Need-returns-6
-unfolding boundOf
+unfolding bound_of
 returns-6 c = simp (c.range-word.ensures, c.before.before.kind.given.1)
 
 returns-7 : tie.Need-returns-7
-unfolding boundOf
+unfolding bound_of
 returns-7 c = simp (c.range-word2.ensures, c.before.before.kind2.given.1)
 
 returns-8 : tie.Need-returns-8
-unfolding boundOf
+unfolding bound_of
 returns-8 c = simp c.enum-told6.given.1
 
 pub mask-of-spec : {M : Type 1} → statement M

@@ -1,7 +1,7 @@
 -- `net::decode::word_of` meets its contract, arm by arm. Assumes nothing.
-use Rattle.net.specs.Load.{boundOf}
+use Rattle.net.specs.Load.{bound_of}
 use Rattle.net.specs.Layout.{unpack}
-use Rattle.net.specs.Decode.{nodeOfKind}
+use Rattle.net.specs.Decode.{node_of_kind}
 use Rattle.net.specs.Net.{node_of}
 use Rattle.sheet.specs.Frames.{Fit}
 use mathlib.Core.Path.{◌∙◌, subst}
@@ -83,36 +83,36 @@ word-requires-7 : tie.Need-word-requires-7
 word-requires-7 c κs = (omega arith, omega (arith, c.index9.ensures, subst (Fit 64 4096) c.before.before.kind7.given.1 (c.before.before.before.before.requires)), omega arith)
 
 returns : tie.Need-returns
-unfolding unpack node_of nodeOfKind boundOf
+unfolding unpack node_of node_of_kind bound_of
 returns c = rw c.enum_told.given.1
 
 returns-2 : tie.Need-returns-2
-unfolding unpack node_of nodeOfKind boundOf
-returns-2 c = c.word.ensures (boundOf c.before.before.before.before.before.args.kind) ∙ rw (c.before.before.before.kind.given.1, c.before.index.ensures)
+unfolding unpack node_of node_of_kind bound_of
+returns-2 c = c.word.ensures (bound_of c.before.before.before.before.before.args.kind) ∙ rw (c.before.before.before.kind.given.1, c.before.index.ensures)
 
 returns-3 : tie.Need-returns-3
-unfolding unpack node_of nodeOfKind boundOf
-returns-3 c = c.word2.ensures (boundOf c.before.before.before.before.before.args.kind) ∙ rw (c.before.before.before.kind2.given.1, c.before.index2.ensures)
+unfolding unpack node_of node_of_kind bound_of
+returns-3 c = c.word2.ensures (bound_of c.before.before.before.before.before.args.kind) ∙ rw (c.before.before.before.kind2.given.1, c.before.index2.ensures)
 
 returns-4 : tie.Need-returns-4
-unfolding unpack node_of nodeOfKind boundOf
-returns-4 c = c.word3.ensures (boundOf c.before.before.before.before.before.before.args.kind) ∙ rw (c.before.before.before.before.kind3.given.1, c.before.before.index3.ensures, c.before.index4.ensures)
+unfolding unpack node_of node_of_kind bound_of
+returns-4 c = c.word3.ensures (bound_of c.before.before.before.before.before.before.args.kind) ∙ rw (c.before.before.before.before.kind3.given.1, c.before.before.index3.ensures, c.before.index4.ensures)
 
 returns-5 : tie.Need-returns-5
-unfolding unpack node_of nodeOfKind boundOf
-returns-5 c = c.word4.ensures (boundOf c.before.before.before.before.before.before.args.kind) ∙ rw (c.before.before.before.before.kind4.given.1, c.before.before.index5.ensures, c.before.index6.ensures)
+unfolding unpack node_of node_of_kind bound_of
+returns-5 c = c.word4.ensures (bound_of c.before.before.before.before.before.before.args.kind) ∙ rw (c.before.before.before.before.kind4.given.1, c.before.before.index5.ensures, c.before.index6.ensures)
 
 returns-6 : tie.Need-returns-6
-unfolding unpack node_of nodeOfKind boundOf
-returns-6 c = c.word5.ensures (boundOf c.before.before.before.before.before.args.kind) ∙ rw (c.before.before.before.kind5.given.1, c.before.index7.ensures)
+unfolding unpack node_of node_of_kind bound_of
+returns-6 c = c.word5.ensures (bound_of c.before.before.before.before.before.args.kind) ∙ rw (c.before.before.before.kind5.given.1, c.before.index7.ensures)
 
 returns-7 : tie.Need-returns-7
-unfolding unpack node_of nodeOfKind boundOf
-returns-7 c = c.word6.ensures (boundOf c.before.before.before.before.before.args.kind) ∙ rw (c.before.before.before.kind6.given.1, c.before.index8.ensures)
+unfolding unpack node_of node_of_kind bound_of
+returns-7 c = c.word6.ensures (bound_of c.before.before.before.before.before.args.kind) ∙ rw (c.before.before.before.kind6.given.1, c.before.index8.ensures)
 
 returns-8 : tie.Need-returns-8
-unfolding unpack node_of nodeOfKind boundOf
-returns-8 c = c.word7.ensures (boundOf c.before.before.before.before.before.args.kind) ∙ rw (c.before.before.before.kind7.given.1, c.before.index9.ensures)
+unfolding unpack node_of node_of_kind bound_of
+returns-8 c = c.word7.ensures (bound_of c.before.before.before.before.before.args.kind) ∙ rw (c.before.before.before.kind7.given.1, c.before.index9.ensures)
 
 pub word-of-spec : {M : Type 1} → statement M
 word-of-spec =

@@ -2,7 +2,7 @@
 use Prim.Native.Nat.{◌-◌}
 use native.Mathlib.Omega.{arith}
 use Rattle.net.specs.Link.{Linked}
-use Rattle.net.specs.LinkLaws.{linked-refl, linked-trans, linked-ground}
+use Rattle.net.specs.LinkLaws.{linked_refl, linked_trans, linked_ground}
 use Rattle.net.proofs.links.link.Statement.{statement}
 use Rattle.net.proofs.links.link.Tie as tie
 
@@ -16,10 +16,10 @@ frames-requires : tie.Need-frames-requires invariant-loop decreases-loop
 frames-requires c κs = omega (arith, c.before.before.requires.room)
 
 loop-holds : tie.Need-loop-init invariant-loop decreases-loop
-loop-holds c = linked-refl _
+loop-holds c = linked_refl _
 
 link-at-requires : tie.Need-link-at-requires invariant-loop decreases-loop
-link-at-requires c κs = (linked-ground c.before.before.before.before.before.before.requires c.before.before.loop.invariant, omega (arith, c.before.before.loop.invariant.count, c.before.before.before.frames.ensures))
+link-at-requires c κs = (linked_ground c.before.before.before.before.before.before.requires c.before.before.loop.invariant, omega (arith, c.before.before.loop.invariant.count, c.before.before.before.frames.ensures))
 
 add-k : tie.Need-overflow-add-k invariant-loop decreases-loop
 add-k c = omega arith
@@ -28,7 +28,7 @@ loop-less : tie.Need-loop-smaller invariant-loop decreases-loop
 loop-less c = omega arith
 
 loop-again : tie.Need-loop-preserved invariant-loop decreases-loop
-loop-again c = linked-trans c.before.before.before.before.before.loop.invariant c.before.before.link_at.ensures
+loop-again c = linked_trans c.before.before.before.before.before.loop.invariant c.before.before.link_at.ensures
 
 same_length : tie.Need-same-length invariant-loop decreases-loop
 same_length c = c.before.loop.invariant.long

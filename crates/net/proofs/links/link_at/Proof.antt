@@ -1,7 +1,7 @@
 -- `net::links::link_at` meets its contract. Assumes nothing.
 use native.Mathlib.Omega.{arith}
 use Rattle.net.specs.Layout.{reads-low, names-below, joins-right}
-use Rattle.net.specs.LinkLaws.{linked-trans, linked-ground}
+use Rattle.net.specs.LinkLaws.{linked_trans, linked_ground}
 use borrow.Author.Rules.{rules}
 use Rattle.net.proofs.links.link_at.Statement.{statement}
 use Rattle.net.proofs.links.link_at.Tie as tie
@@ -57,13 +57,13 @@ link-right-requires c κs =
     let p = c.before.before.before.before.before.before.before.before.before.before.before.before.before.before.before.before.before.before.requires in
     let L = c.before.before.before.before.before.before.before.before.before.link_left.ensures in
     let I = c.before.before.before.before.before.before.before.before.before.before.before.before.before.before.before.Node-at.ensures.0 in
-    (linked-ground p.0 L, omega (arith, p.1, L.count), joins-right p.0 I (omega arith) (omega arith))
+    (linked_ground p.0 L, omega (arith, p.1, L.count), joins-right p.0 I (omega arith) (omega arith))
 
 same-length-6 : tie.Need-same-length-6
 same-length-6 c = search rules
 
 returns-6 : tie.Need-returns-6
-returns-6 c = linked-trans c.before.before.before.before.before.before.before.before.before.before.before.before.link_left.ensures c.before.before.link-right.ensures
+returns-6 c = linked_trans c.before.before.before.before.before.before.before.before.before.before.before.before.link_left.ensures c.before.before.link-right.ensures
 
 pub link-at-spec : {M : Type 1} → statement M
 link-at-spec =

@@ -1,8 +1,8 @@
 -- `net::links::link_right` meets its contract. Assumes nothing.
 use native.Mathlib.Omega.{arith}
 use mathlib.Core.Path.{◌∙◌, ap}
-use Rattle.net.specs.Link.{lowPart}
-use Rattle.net.specs.LinkLaws.{linked-trans, linked-ground}
+use Rattle.net.specs.Link.{low_part}
+use Rattle.net.specs.LinkLaws.{linked_trans, linked_ground}
 use borrow.Author.Rules.{rules}
 use Rattle.net.proofs.links.link_right.Statement.{statement}
 use Rattle.net.proofs.links.link_right.Tie as tie
@@ -19,7 +19,7 @@ with-right-requires c κs = search rules
 relink-requires : tie.Need-relink-requires
 relink-requires c κs =
     let p = c.before.before.before.before.before.before.before.requires in
-    (p.0, p.1, c.before.with-right.ensures ∙ ap lowPart c.before.before.word_at.ensures)
+    (p.0, p.1, c.before.with-right.ensures ∙ ap low_part c.before.before.word_at.ensures)
 
 word-at-requires-2 : tie.Need-word-at-requires-2
 word-at-requires-2 c κs = search rules
@@ -34,13 +34,13 @@ relink-requires-2 : tie.Need-relink-requires-2
 relink-requires-2 c κs =
     let p = c.before.before.before.before.before.before.before.before.before.before.before.before.before.before.requires in
     let L = c.before.before.before.before.before.before.relink.ensures in
-    (linked-ground p.0 L, omega (arith, p.1, p.2, L.count), c.before.with-users.ensures ∙ ap lowPart c.before.before.word-at2.ensures)
+    (linked_ground p.0 L, omega (arith, p.1, p.2, L.count), c.before.with-users.ensures ∙ ap low_part c.before.before.word-at2.ensures)
 
 same_length : tie.Need-same-length
 same_length c = search rules
 
 returns : tie.Need-returns
-returns c = linked-trans c.before.before.before.before.before.before.before.before.before.relink.ensures c.before.before.relink2.ensures
+returns c = linked_trans c.before.before.before.before.before.before.before.before.before.relink.ensures c.before.before.relink2.ensures
 
 pub link-right-spec : {M : Type 1} → statement M
 link-right-spec =

@@ -1,8 +1,8 @@
 -- `net::links::link_variable` meets its contract. Assumes nothing.
 use native.Mathlib.Omega.{arith}
 use mathlib.Core.Path.{refl, ◌∙◌, ap}
-use Rattle.net.specs.Link.{lowPart}
-use Rattle.net.specs.LinkLaws.{linked-trans, linked-reader}
+use Rattle.net.specs.Link.{low_part}
+use Rattle.net.specs.LinkLaws.{linked_trans, linked_reader}
 use borrow.Author.Rules.{rules}
 use Rattle.net.proofs.links.link_variable.Statement.{statement}
 use Rattle.net.proofs.links.link_variable.Tie as tie
@@ -25,7 +25,7 @@ with-left-requires c κs = search rules
 relink-requires : tie.Need-relink-requires
 relink-requires c κs =
     let p = c.before.before.before.before.before.before.requires in
-    (p.0, p.1, c.before.with-left.ensures ∙ ap lowPart c.before.before.word_at.ensures)
+    (p.0, p.1, c.before.with-left.ensures ∙ ap low_part c.before.before.word_at.ensures)
 
 add-net : tie.Need-overflow-add-net
 add-net c = search rules
@@ -41,8 +41,8 @@ same_length c = search rules
 
 returns : tie.Need-returns
 returns c =
-    linked-trans c.before.before.relink.ensures
-    (linked-reader _ _ (omega arith) (omega (arith, c.before.before.before.before.before.before.before.before.before.requires.2)) refl)
+    linked_trans c.before.before.relink.ensures
+    (linked_reader _ _ (omega arith) (omega (arith, c.before.before.before.before.before.before.before.before.before.requires.2)) refl)
 
 pub link-variable-spec : {M : Type 1} → statement M
 link-variable-spec =

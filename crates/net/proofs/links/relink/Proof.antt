@@ -1,6 +1,6 @@
 -- `net::links::relink` meets its contract. Assumes nothing.
 use mathlib.Core.Path.{refl}
-use Rattle.net.specs.LinkLaws.{linked-relink}
+use Rattle.net.specs.LinkLaws.{linked_relink}
 use borrow.Author.Rules.{rules}
 use Rattle.net.proofs.links.relink.Statement.{statement}
 use Rattle.net.proofs.links.relink.Tie as tie
@@ -21,7 +21,7 @@ same_length : tie.Need-same-length
 same_length c = search rules
 
 returns : tie.Need-returns
-returns c = linked-relink c.args.k c.args.word c.requires.0 c.requires.1 c.requires.2 refl
+returns c = linked_relink c.args.k c.args.word c.requires.0 c.requires.1 c.requires.2 refl
 
 pub relink-spec : {M : Type 1} → statement M
 relink-spec = tie.close (tie.spec mul-net add-net mul-net-2 slice-write-net same_length returns)

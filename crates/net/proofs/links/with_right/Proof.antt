@@ -1,6 +1,6 @@
 -- `net::links::with_right` meets its contract. Assumes nothing.
 use native.Mathlib.Omega.{arith}
-use Rattle.net.specs.Link.{lowPart}
+use Rattle.net.specs.Link.{low_part}
 use borrow.Author.Rules.{rules}
 use Rattle.net.proofs.links.with_right.Statement.{statement}
 use Rattle.net.proofs.links.with_right.Tie as tie
@@ -12,7 +12,7 @@ add-result : tie.Need-overflow-add-result
 add-result c = search rules
 
 returns : tie.Need-returns
-unfolding lowPart
+unfolding low_part
 returns c = omega arith
 
 pub with-right-spec : {M : Type 1} → statement M

@@ -1,6 +1,6 @@
 -- `net::links::with_users` meets its contract. Assumes nothing.
 use native.Mathlib.Omega.{arith}
-use Rattle.net.specs.Link.{lowPart}
+use Rattle.net.specs.Link.{low_part}
 use borrow.Author.Rules.{rules}
 use Rattle.net.proofs.links.with_users.Statement.{statement}
 use Rattle.net.proofs.links.with_users.Tie as tie
@@ -18,7 +18,7 @@ add-result-2 : tie.Need-overflow-add-result-2
 add-result-2 c = search rules
 
 returns : tie.Need-returns
-unfolding lowPart
+unfolding low_part
 returns c = omega arith
 
 pub with-users-spec : {M : Type 1} → statement M

@@ -1,6 +1,6 @@
 -- `net::node::word` meets its contract. Assumes nothing.
 use mathlib.Core.Path.{refl}
-use Rattle.net.specs.StoreLaws.{word-node}
+use Rattle.net.specs.StoreLaws.{word_node}
 use borrow.Author.Rules.{rules}
 use Rattle.net.proofs.node.word.Statement.{statement}
 use Rattle.net.proofs.node.word.Tie as tie
@@ -18,7 +18,7 @@ add-result-2 : tie.Need-overflow-add-result-2
 add-result-2 c = search rules
 
 returns : tie.Need-returns
-returns c = word-node c.requires.0 c.requires.1 c.requires.2 refl
+returns c = word_node c.requires.0 c.requires.1 c.requires.2 refl
 
 pub word-spec : {M : Type 1} → statement M
 word-spec = tie.close (tie.spec mul-result add-result mul-result-2 add-result-2 returns)

@@ -1,5 +1,5 @@
 -- `net::own::choose` meets its contract. Assumes nothing.
-use Rattle.net.specs.OwnLaws.{put-chosen}
+use Rattle.net.specs.OwnLaws.{put_chosen}
 use mathlib.Core.Path.{ap}
 use Prim.Native.Nat.{ℕ, ◌+◌}
 use borrow.Author.Rules.{rules}
@@ -28,7 +28,7 @@ same_length : tie.Need-same-length
 same_length c = search rules
 
 returns : tie.Need-returns
-returns c = let p = c.before.before.before.before.before.before.before.before.requires in put-chosen (ap (λ (x : ℕ). x + c.before.before.before.before.before.before.before.before.args.i) c.before.before.before.before.before.frames.ensures) p.3 p.4 (c.before.before.before.word.ensures _) (record { is = c.before.before.put.ensures })
+returns c = let p = c.before.before.before.before.before.before.before.before.requires in put_chosen (ap (λ (x : ℕ). x + c.before.before.before.before.before.before.before.before.args.i) c.before.before.before.before.before.frames.ensures) p.3 p.4 (c.before.before.before.word.ensures _) (record { is = c.before.before.put.ensures })
 
 pub choose_spec : {M : Type 1} → statement M
 choose_spec =

@@ -1,5 +1,5 @@
 -- `net::own::forget` meets its contract. Assumes nothing.
-use Rattle.net.specs.OwnLaws.{put-forgotten}
+use Rattle.net.specs.OwnLaws.{put_forgotten}
 use borrow.Author.Rules.{rules}
 use Rattle.net.proofs.own.forget.Statement.{statement}
 use Rattle.net.proofs.own.forget.Tie as tie
@@ -26,7 +26,7 @@ same_length : tie.Need-same-length
 same_length c = search rules
 
 returns : tie.Need-returns
-returns c = put-forgotten (c.before.before.before.before.before.before.before.before.before.before.before.before.before.before.before.requires) c.before.before.before.before.before.before.before.before.before.before.before.before.frames.ensures (record { is = c.before.before.before.before.before.before.before.before.before.before.put.ensures }) (record { is = c.before.before.before.before.before.before.put2.ensures }) (record { is = c.before.before.put3.ensures })
+returns c = put_forgotten (c.before.before.before.before.before.before.before.before.before.before.before.before.before.before.before.requires) c.before.before.before.before.before.before.before.before.before.before.before.before.frames.ensures (record { is = c.before.before.before.before.before.before.before.before.before.before.put.ensures }) (record { is = c.before.before.before.before.before.before.put2.ensures }) (record { is = c.before.before.put3.ensures })
 
 pub forget-spec : {M : Type 1} → statement M
 forget-spec =

@@ -2,7 +2,7 @@
 use native.Mathlib.Omega.{arith}
 use mathlib.Core.Path.{sym, ◌∙◌}
 use Rattle.net.specs.Layout.{binds-below}
-use Rattle.net.specs.NestLaws.{nested-net}
+use Rattle.net.specs.NestLaws.{nested_net}
 use borrow.Author.Rules.{rules}
 use Rattle.net.proofs.rewrite.nest_at.Statement.{statement}
 use Rattle.net.proofs.rewrite.nest_at.Tie as tie
@@ -50,7 +50,7 @@ same-length-4 c = search rules
 
 returns-4 : tie.Need-returns-4
 returns-4 c =
-    λ s N. nested-net N c.before.before.before.before.before.before.before.before.before.before.before.before.before.before.before.before.before.before.before.before.requires.1
+    λ s N. nested_net N c.before.before.before.before.before.before.before.before.before.before.before.before.before.before.before.before.before.before.before.before.requires.1
     (sym c.before.before.before.before.before.before.before.before.before.before.before.before.before.changed.ensures ∙ c.before.before.before.before.before.before.before.before.before.before.before.before.if2.false)
     c.before.before.before.before.before.before.before.before.before.before.before.before.before.before.before.before.before.Node-at.ensures.0 (omega arith)
     c.before.before.before.before.before.before.before.before.before.before.node-at2.ensures.0 (omega arith)

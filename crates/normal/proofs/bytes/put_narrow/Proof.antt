@@ -1,7 +1,7 @@
 -- `normal::bytes::put_narrow` meets its contract.
 use native.Mathlib.Omega.{arith}
 use lib.ListN.{length-set}
-use Rattle.words.specs.Stores.{four-sets}
+use Rattle.words.specs.Stores.{four_sets}
 use borrow.Author.Rules.{rules}
 use Rattle.normal.proofs.bytes.put_narrow.Statement.{statement}
 use Rattle.normal.proofs.bytes.put_narrow.Tie as tie
@@ -46,7 +46,7 @@ returns : tie.Need-returns
 returns c =
     let a = c.before.before.before.before.before.args in
     simp (c.before.before.before.byte.ensures, c.before.before.byte2.ensures, c.before.byte3.ensures, c.byte4.ensures)
-    (four-sets a.out.now a.at _ _ _ _)
+    (four_sets a.out.now a.at _ _ _ _)
 
 pub put-narrow-spec : {M : Type 1} → statement M
 put-narrow-spec =

@@ -1,7 +1,7 @@
 -- `normal::bytes::put_wide` meets its contract.
 use native.Mathlib.Omega.{arith}
 use lib.ListN.{length-set}
-use Rattle.words.specs.Stores.{seven-sets}
+use Rattle.words.specs.Stores.{seven_sets}
 use borrow.Author.Rules.{rules}
 use Rattle.normal.proofs.bytes.put_wide.Statement.{statement}
 use Rattle.normal.proofs.bytes.put_wide.Tie as tie
@@ -73,7 +73,7 @@ returns : tie.Need-returns
 returns c =
     let a = c.before.before.before.before.before.before.before.before.args in
     simp (c.before.before.before.before.before.before.byte.ensures, c.before.before.before.before.before.byte2.ensures, c.before.before.before.before.byte3.ensures, c.before.before.before.byte4.ensures, c.before.before.byte5.ensures, c.before.byte6.ensures, c.byte7.ensures)
-    (seven-sets a.out.now a.at _ _ _ _ _ _ _)
+    (seven_sets a.out.now a.at _ _ _ _ _ _ _)
 
 pub put-wide-spec : {M : Type 1} → statement M
 put-wide-spec =

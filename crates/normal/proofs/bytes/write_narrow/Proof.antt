@@ -5,19 +5,19 @@ use native.Mathlib.Omega.{arith}
 use lib.ListN.{length}
 use lib.Seq.{sets}
 use Rattle.form.specs.declared.Form.TheVariants.{Narrow}
-use Rattle.normal.specs.WordBytes.{wordsBytes}
-use Rattle.normal.specs.BytesLaws.{words-none, words-next, words-all}
+use Rattle.normal.specs.WordBytes.{words_bytes}
+use Rattle.normal.specs.BytesLaws.{words_none, words_next, words_all}
 use Rattle.normal.proofs.bytes.write_narrow.Statement.{statement}
 use Rattle.normal.proofs.bytes.write_narrow.Tie as tie
 
 abbrev invariant-loop : tie.invariant-loop
-invariant-loop frames count out₀ k₀ out k = (k ≤ count) × (out ≡ sets out₀ 0 (wordsBytes Narrow frames k)) × (length out ≡ length out₀)
+invariant-loop frames count out₀ k₀ out k = (k ≤ count) × (out ≡ sets out₀ 0 (words_bytes Narrow frames k)) × (length out ≡ length out₀)
 
 abbrev decreases-loop : tie.decreases-loop
 decreases-loop frames count out₀ k₀ out k = count - k
 
 loop-holds : tie.Need-loop-init invariant-loop decreases-loop
-loop-holds c = (omega arith, sym (words-none Narrow _ _), refl)
+loop-holds c = (omega arith, sym (words_none Narrow _ _), refl)
 
 mul-put-narrow : tie.Need-overflow-mul-put-narrow invariant-loop decreases-loop
 mul-put-narrow c = omega arith
@@ -41,7 +41,7 @@ loop-again : tie.Need-loop-preserved invariant-loop decreases-loop
 loop-again c =
     let I = c.before.before.before.before.before.before.loop.invariant in (
       omega arith,
-      c.before.before.put-narrow.ensures ∙ rw I.1 (words-next Narrow _ _ _),
+      c.before.before.put-narrow.ensures ∙ rw I.1 (words_next Narrow _ _ _),
       c.before.out.given ∙ I.2,
     )
 
@@ -49,7 +49,7 @@ same_length : tie.Need-same-length invariant-loop decreases-loop
 same_length c = c.before.loop.invariant.2
 
 returns : tie.Need-returns invariant-loop decreases-loop
-returns c = let I = c.before.loop.invariant in I.1 ∙ words-all Narrow _ _ I.0 (omega arith)
+returns c = let I = c.before.loop.invariant in I.1 ∙ words_all Narrow _ _ I.0 (omega arith)
 
 pub write-narrow-spec : {M : Type 1} → statement M
 write-narrow-spec =

@@ -5,19 +5,19 @@ use native.Mathlib.Omega.{arith}
 use lib.ListN.{length}
 use lib.Seq.{sets}
 use Rattle.form.specs.declared.Form.TheVariants.{Wide}
-use Rattle.normal.specs.WordBytes.{wordsBytes}
-use Rattle.normal.specs.BytesLaws.{words-none, words-next, words-all}
+use Rattle.normal.specs.WordBytes.{words_bytes}
+use Rattle.normal.specs.BytesLaws.{words_none, words_next, words_all}
 use Rattle.normal.proofs.bytes.write_wide.Statement.{statement}
 use Rattle.normal.proofs.bytes.write_wide.Tie as tie
 
 abbrev invariant-loop : tie.invariant-loop
-invariant-loop frames count out₀ k₀ out k = (k ≤ count) × (out ≡ sets out₀ 0 (wordsBytes Wide frames k)) × (length out ≡ length out₀)
+invariant-loop frames count out₀ k₀ out k = (k ≤ count) × (out ≡ sets out₀ 0 (words_bytes Wide frames k)) × (length out ≡ length out₀)
 
 abbrev decreases-loop : tie.decreases-loop
 decreases-loop frames count out₀ k₀ out k = count - k
 
 loop-holds : tie.Need-loop-init invariant-loop decreases-loop
-loop-holds c = (omega arith, sym (words-none Wide _ _), refl)
+loop-holds c = (omega arith, sym (words_none Wide _ _), refl)
 
 mul-put-wide : tie.Need-overflow-mul-put-wide invariant-loop decreases-loop
 mul-put-wide c = omega arith
@@ -41,7 +41,7 @@ loop-again : tie.Need-loop-preserved invariant-loop decreases-loop
 loop-again c =
     let I = c.before.before.before.before.before.before.loop.invariant in (
       omega arith,
-      c.before.before.put-wide.ensures ∙ rw I.1 (words-next Wide _ _ _),
+      c.before.before.put-wide.ensures ∙ rw I.1 (words_next Wide _ _ _),
       c.before.out.given ∙ I.2,
     )
 
@@ -49,7 +49,7 @@ same_length : tie.Need-same-length invariant-loop decreases-loop
 same_length c = c.before.loop.invariant.2
 
 returns : tie.Need-returns invariant-loop decreases-loop
-returns c = let I = c.before.loop.invariant in I.1 ∙ words-all Wide _ _ I.0 (omega arith)
+returns c = let I = c.before.loop.invariant in I.1 ∙ words_all Wide _ _ I.0 (omega arith)
 
 pub write-wide-spec : {M : Type 1} → statement M
 write-wide-spec =

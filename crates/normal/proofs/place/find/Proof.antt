@@ -2,7 +2,7 @@
 use Prim.Native.Nat.{◌≤◌, ◌-◌}
 use native.Mathlib.Omega.{arith}
 use Rattle.normal.specs.Visit.{Found}
-use Rattle.normal.specs.CodeLaws.{seek-start, seek-next, seek-here, seek-end}
+use Rattle.normal.specs.CodeLaws.{seek_start, seek_next, seek_here, seek-end}
 use Rattle.normal.proofs.place.find.Statement.{statement}
 use Rattle.normal.proofs.place.find.Tie as tie
 
@@ -13,7 +13,7 @@ abbrev decreases-loop : tie.decreases-loop
 decreases-loop frames count frame i₀ i = count - i
 
 loop-holds : tie.Need-loop-init invariant-loop decreases-loop
-loop-holds c = (omega arith, seek-start _ _)
+loop-holds c = (omega arith, seek_start _ _)
 
 mul-if1 : tie.Need-overflow-mul-if1 invariant-loop decreases-loop
 mul-if1 c = omega (arith, c.before.before.requires, c.before.before.ranges)
@@ -22,7 +22,7 @@ shared-slice-read-if1 : tie.Need-shared-slice-read-if1 invariant-loop decreases-
 shared-slice-read-if1 c = omega (arith, c.before.before.before.requires)
 
 returns : tie.Need-returns invariant-loop decreases-loop
-returns c = seek-here c.before.before.before.loop.invariant.1 (omega arith) c.if1.true
+returns c = seek_here c.before.before.before.loop.invariant.1 (omega arith) c.if1.true
 
 add-i : tie.Need-overflow-add-i invariant-loop decreases-loop
 add-i c = omega arith
@@ -31,7 +31,7 @@ loop-less : tie.Need-loop-smaller invariant-loop decreases-loop
 loop-less c = omega arith
 
 loop-again : tie.Need-loop-preserved invariant-loop decreases-loop
-loop-again c = (omega arith, seek-next c.before.before.before.loop.invariant.1 c.if1.false)
+loop-again c = (omega arith, seek_next c.before.before.before.loop.invariant.1 c.if1.false)
 
 returns-2 : tie.Need-returns-2 invariant-loop decreases-loop
 returns-2 c = seek-end c.before.loop.invariant.1 c.before.loop.invariant.0 (omega arith)

@@ -1,5 +1,5 @@
 -- `normal::place::put` meets its contract.
-use Rattle.normal.specs.CodeLaws.{puts-old, puts-new}
+use Rattle.normal.specs.CodeLaws.{puts_old, puts_new}
 use borrow.Author.Rules.{rules}
 use Rattle.normal.proofs.place.put.Statement.{statement}
 use Rattle.normal.proofs.place.put.Tie as tie
@@ -11,7 +11,7 @@ same_length : tie.Need-same-length
 same_length c = search rules
 
 returns : tie.Need-returns
-returns c = puts-old c.before.find.ensures c.if1.true
+returns c = puts_old c.before.find.ensures c.if1.true
 
 mul-frames : tie.Need-overflow-mul-frames
 mul-frames c = search rules
@@ -26,7 +26,7 @@ same-length-2 : tie.Need-same-length-2
 same-length-2 c = search rules
 
 returns-2 : tie.Need-returns-2
-returns-2 c = puts-new c.before.find.ensures c.if1.false
+returns-2 c = puts_new c.before.find.ensures c.if1.false
 
 pub put_spec : {M : Type 1} → statement M
 put_spec =

@@ -2,7 +2,7 @@
 use lib.ListN.{length}
 use mathlib.Core.Path.{subst}
 use Rattle.sheet.specs.Frames.{Fit}
-use Rattle.normal.specs.Visit.{firstUnplaced}
+use Rattle.normal.specs.Visit.{first_unplaced}
 use borrow.Author.Rules.{rules}
 use Rattle.normal.proofs.visit.first_unplaced.Statement.{statement}
 use Rattle.normal.proofs.visit.first_unplaced.Tie as tie
@@ -53,35 +53,35 @@ enum-told-3 : tie.Need-enum-told-3
 enum-told-3 c = search rules
 
 returns : tie.Need-returns
-unfolding firstUnplaced
+unfolding first_unplaced
 returns c = simp c.enum_told.given.1
 
 returns-2 : tie.Need-returns-2
-unfolding firstUnplaced
+unfolding first_unplaced
 returns-2 c = simp c.enum-told2.given.1
 
 returns-3 : tie.Need-returns-3
-unfolding firstUnplaced
+unfolding first_unplaced
 returns-3 c = simp (c.before.before.kind.given.1, c.unplaced-or.ensures)
 
 returns-4 : tie.Need-returns-4
-unfolding firstUnplaced
+unfolding first_unplaced
 returns-4 c = simp (c.before.before.before.kind2.given.1, c.before.unplaced-or2.ensures, c.unplaced-or3.ensures)
 
 returns-5 : tie.Need-returns-5
-unfolding firstUnplaced
+unfolding first_unplaced
 returns-5 c = simp (c.before.before.before.kind3.given.1, c.before.unplaced-or4.ensures, c.unplaced-or5.ensures)
 
 returns-6 : tie.Need-returns-6
-unfolding firstUnplaced
+unfolding first_unplaced
 returns-6 c = simp (c.before.before.kind4.given.1, c.unplaced-or6.ensures)
 
 returns-7 : tie.Need-returns-7
-unfolding firstUnplaced
+unfolding first_unplaced
 returns-7 c = simp (c.before.before.kind5.given.1, c.unplaced-or7.ensures)
 
 returns-8 : tie.Need-returns-8
-unfolding firstUnplaced
+unfolding first_unplaced
 returns-8 c = simp c.enum-told3.given.1
 
 pub first-unplaced-spec : {M : Type 1} → statement M

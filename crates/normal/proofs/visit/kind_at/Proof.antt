@@ -1,4 +1,4 @@
-use Rattle.sheet.specs.Fields.{sheetOf, kind}
+use Rattle.sheet.specs.Fields.{sheet_of, kind}
 use Rattle.form.specs.declared.Form.{Form}
 use mathlib.Core.Path.{ap, ◌∙◌}
 use borrow.Author.Rules.{rules}
@@ -19,7 +19,7 @@ decode-requires c κs = search rules
 
 -- src/visit.rt:106:1
 returns : tie.Need-returns
-returns c = let a = c.before.before.before.args in c.decode.ensures.1 ∙ ap (λ (F : Form). kind (sheetOf F a.sheet.now) a.frame) c.before.of.ensures
+returns c = let a = c.before.before.before.args in c.decode.ensures.1 ∙ ap (λ (F : Form). kind (sheet_of F a.sheet.now) a.frame) c.before.of.ensures
 
 pub kind-at-spec : {M : Type 1} → statement M
 kind-at-spec = tie.close (tie.spec of-requires decode-requires returns)

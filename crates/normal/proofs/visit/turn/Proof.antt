@@ -1,5 +1,5 @@
 use native.Mathlib.Omega.{arith}
-use Rattle.normal.specs.VisitLaws.{stack-fits, turn_inside, turn-fit, next-room, turn-push, turn-room, turn-number, turn-put}
+use Rattle.normal.specs.VisitLaws.{stack-fits, turn_inside, turn-fit, next-room, turn_push, turn-room, turn-number, turn-put}
 use borrow.Author.Rules.{rules}
 use Rattle.normal.proofs.visit.turn.Statement.{statement}
 use Rattle.normal.proofs.visit.turn.Tie as tie
@@ -43,7 +43,7 @@ same-length-2 c = search rules
 
 -- src/visit.rt:125:9
 returns : tie.Need-returns
-returns c = turn-push c.before.before.before.before.before.before.before.before.before.before.before.before.before.before.requires.0 c.before.before.before.before.before.before.before.before.before.before.before.before.before.before.requires.1 c.before.before.before.before.before.before.before.before.top_of.ensures c.before.before.before.before.before.before.before.kind_at.ensures c.before.before.before.before.before.first-unplaced.ensures c.before.before.before.before.if1.true c.before.before.push.ensures
+returns c = turn_push c.before.before.before.before.before.before.before.before.before.before.before.before.before.before.requires.0 c.before.before.before.before.before.before.before.before.before.before.before.before.before.before.requires.1 c.before.before.before.before.before.before.before.before.top_of.ensures c.before.before.before.before.before.before.before.kind_at.ensures c.before.before.before.before.before.first-unplaced.ensures c.before.before.before.before.if1.true c.before.before.push.ensures
 
 -- src/visit.rt:130:9
 renamed-word-requires : tie.Need-renamed-word-requires

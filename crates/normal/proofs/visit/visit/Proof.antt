@@ -1,6 +1,6 @@
 use Rattle.normal.specs.VisitLaws.{visited}
 use Rattle.normal.specs.Visit.{left, Visiting}
-use Rattle.sheet.specs.Fields.{sheetOf}
+use Rattle.sheet.specs.Fields.{sheet_of}
 use Rattle.sheet.specs.Fields as Sheets
 use Rattle.form.specs.Form.{form_of}
 use lib.ListN.{length}
@@ -13,11 +13,11 @@ use Rattle.normal.proofs.visit.visit.Lts as lts
 use Rattle.normal.proofs.visit.turn.Reads as turn-reads
 
 abbrev invariant-loop : tie.invariant-loop
-invariant-loop sheet wide frames₀ numbers₀ stack₀ at₀ frames numbers stack at = Visiting (sheetOf (form_of wide) sheet) frames numbers stack at.count at.depth
+invariant-loop sheet wide frames₀ numbers₀ stack₀ at₀ frames numbers stack at = Visiting (sheet_of (form_of wide) sheet) frames numbers stack at.count at.depth
     × (length frames ≡ length frames₀) × (length numbers ≡ length numbers₀) × (length stack ≡ length stack₀)
 
 abbrev decreases-loop : tie.decreases-loop
-decreases-loop sheet wide frames₀ numbers₀ stack₀ at₀ frames numbers stack at = left numbers (Sheets.frames (sheetOf (form_of wide) sheet)) at.depth
+decreases-loop sheet wide frames₀ numbers₀ stack₀ at₀ frames numbers stack at = left numbers (Sheets.frames (sheet_of (form_of wide) sheet)) at.depth
 
 -- src/visit.rt:124:5
 loop-holds : tie.Need-loop-init invariant-loop decreases-loop

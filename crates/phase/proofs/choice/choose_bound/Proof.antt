@@ -1,8 +1,8 @@
 -- `phase::choice::choose_bound` meets its contract: the net has other phases only, and the set of variables falls, as a word. Assumes nothing.
 use native.Mathlib.Omega.{arith}
-use Rattle.words.specs.Mask.{top-less}
+use Rattle.words.specs.Mask.{top_less}
 use Rattle.net.specs.Link.{Linked}
-use Rattle.net.specs.LinkLaws.{linked-refl, linked-trans, linked-ground}
+use Rattle.net.specs.LinkLaws.{linked_refl, linked_trans, linked_ground}
 use borrow.Author.Rules.{rules}
 use Rattle.phase.proofs.choice.choose_bound.Statement.{statement}
 use Rattle.phase.proofs.choice.choose_bound.Tie as tie
@@ -17,7 +17,7 @@ negative-requires : tie.Need-negative-requires invariant-loop decreases-loop
 negative-requires c κs = search rules
 
 loop-holds : tie.Need-loop-init invariant-loop decreases-loop
-loop-holds c = linked-refl _
+loop-holds c = linked_refl _
 
 highest-requires : tie.Need-highest-requires invariant-loop decreases-loop
 highest-requires c κs = omega arith
@@ -34,7 +34,7 @@ element-copy-out-choose c = omega (arith, c.index.ensures, c.before.before.highe
 choose-requires : tie.Need-choose-requires invariant-loop decreases-loop
 choose-requires c κs =
     let p = c.before.before.before.before.before.before.before.before.before.requires in
-    (c.before.before.before.highest.ensures.1, linked-ground p c.before.before.before.before.before.loop.invariant)
+    (c.before.before.before.highest.ensures.1, linked_ground p c.before.before.before.before.before.loop.invariant)
 
 one-requires : tie.Need-one-requires invariant-loop decreases-loop
 one-requires c κs = c.before.before.before.before.before.before.highest.ensures.1
@@ -43,10 +43,10 @@ without-requires : tie.Need-without-requires invariant-loop decreases-loop
 without-requires c κs = search rules
 
 loop-less : tie.Need-loop-smaller invariant-loop decreases-loop
-loop-less c = top-less c.before.before.before.before.before.before.before.before.highest.ensures.0 c.before.one.ensures c.without.ensures
+loop-less c = top_less c.before.before.before.before.before.before.before.before.highest.ensures.0 c.before.one.ensures c.without.ensures
 
 loop-again : tie.Need-loop-preserved invariant-loop decreases-loop
-loop-again c = linked-trans c.before.before.before.before.before.before.before.before.before.before.loop.invariant c.before.before.before.before.choose.ensures
+loop-again c = linked_trans c.before.before.before.before.before.before.before.before.before.before.loop.invariant c.before.before.before.before.choose.ensures
 
 same_length : tie.Need-same-length invariant-loop decreases-loop
 same_length c = c.before.loop.invariant.long

@@ -2,7 +2,7 @@
 use Prim.Native.Nat.{◌-◌}
 use native.Mathlib.Omega.{arith}
 use Rattle.net.specs.Link.{Linked}
-use Rattle.net.specs.LinkLaws.{linked-refl, linked-trans, linked-ground}
+use Rattle.net.specs.LinkLaws.{linked_refl, linked_trans, linked_ground}
 use borrow.Author.Rules.{rules}
 use Rattle.phase.proofs.choice.choose_in.Statement.{statement}
 use Rattle.phase.proofs.choice.choose_in.Tie as tie
@@ -17,7 +17,7 @@ weigh-requires : tie.Need-weigh-requires invariant-loop decreases-loop
 weigh-requires c κs = c.before.before.before.before.before.requires
 
 loop-holds : tie.Need-loop-init invariant-loop decreases-loop
-loop-holds c = linked-refl _
+loop-holds c = linked_refl _
 
 mul-choose-at : tie.Need-overflow-mul-choose-at invariant-loop decreases-loop
 mul-choose-at c = search rules
@@ -31,7 +31,7 @@ choose-at-requires : tie.Need-choose-at-requires invariant-loop decreases-loop
 choose-at-requires c κs =
     let p = c.before.before.before.before.before.before.before.before.before.before.before.before.before.requires in
     let L = c.before.before.before.before.loop.invariant in
-    (linked-ground p.0 L, omega (arith, c.before.before.before.loop-test.true, L.long, p.0.room, p.2))
+    (linked_ground p.0 L, omega (arith, c.before.before.before.loop-test.true, L.long, p.0.room, p.2))
 
 add-k : tie.Need-overflow-add-k invariant-loop decreases-loop
 add-k c = omega (arith, c.before.before.before.before.before.before.loop-test.true)
@@ -40,7 +40,7 @@ loop-less : tie.Need-loop-smaller invariant-loop decreases-loop
 loop-less c = omega (arith, c.before.before.before.before.before.before.loop-test.true)
 
 loop-again : tie.Need-loop-preserved invariant-loop decreases-loop
-loop-again c = linked-trans c.before.before.before.before.before.before.before.loop.invariant c.before.before.choose-at.ensures
+loop-again c = linked_trans c.before.before.before.before.before.before.before.loop.invariant c.before.before.choose-at.ensures
 
 same_length : tie.Need-same-length invariant-loop decreases-loop
 same_length c = c.before.loop.invariant.long

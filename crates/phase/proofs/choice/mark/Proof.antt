@@ -1,7 +1,7 @@
 -- `phase::choice::mark` meets its contract: the word is that of a variable. Assumes nothing.
 use native.Mathlib.Omega.{arith}
 use mathlib.Core.Path.{refl}
-use Rattle.net.specs.LinkLaws.{linked-reader}
+use Rattle.net.specs.LinkLaws.{linked_reader}
 use borrow.Author.Rules.{rules}
 use Rattle.phase.proofs.choice.mark.Statement.{statement}
 use Rattle.phase.proofs.choice.mark.Tie as tie
@@ -28,7 +28,7 @@ same_length : tie.Need-same-length
 same_length c = search rules
 
 returns : tie.Need-returns
-returns c = linked-reader _ _ (omega arith) (omega (arith, c.before.requires.0)) refl
+returns c = linked_reader _ _ (omega arith) (omega (arith, c.before.requires.0)) refl
 
 pub mark_spec : {M : Type 1} → statement M
 mark_spec =

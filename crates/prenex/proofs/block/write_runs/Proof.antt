@@ -5,7 +5,7 @@ use native.Mathlib.Omega.{arith}
 use mathlib.Core.Logic.{⊎_elim}
 use mathlib.Core.Path.{sym, ◌∙◌}
 use Rattle.words.specs.Word.{bit}
-use Rattle.prenex.specs.BlockLaws.{Runs, runs-start, runs-has, runs-lacks, runs-end}
+use Rattle.prenex.specs.BlockLaws.{Runs, runs-start, runs_has, runs_lacks, runs-end}
 use Rattle.prenex.proofs.block.write_runs.Statement.{statement}
 use Rattle.prenex.proofs.block.write_runs.Tie as tie
 
@@ -45,10 +45,10 @@ loop-again c =
     let has = c.before.has.ensures in (
       omega (arith, t),
       ⊎_elim
-          (λ w. runs-has a.exists (bit a.word) a.n a.out.now l.x l.c l.to l.out l.invariant.1 t _ _ _
+          (λ w. runs_has a.exists (bit a.word) a.n a.out.now l.x l.c l.to l.out l.invariant.1 t _ _ _
           (sym has ∙ w.0.taken) w.3 w.2 w.1)
           (λ w. let r = w.2.ensures in
-          runs-lacks a.exists (bit a.word) a.n a.out.now l.x l.c l.to l.out l.invariant.1 t _ _ _
+          runs_lacks a.exists (bit a.word) a.n a.out.now l.x l.c l.to l.out l.invariant.1 t _ _ _
           (sym has ∙ w.0.left) w.7 (w.6 ∙ r.0) (rw w.6 r.1) (w.5 ∙ r.2))
           c.if1.branch,
     )

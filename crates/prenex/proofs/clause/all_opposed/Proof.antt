@@ -5,21 +5,21 @@ use native.Mathlib.Omega.{arith}
 use mathlib.Core.Logic.{⊎_elim}
 use mathlib.Core.Path.{◌≡◌, sym, ap, ◌∙◌}
 use lib.ListN.{length, drop}
-use Rattle.prenex.specs.Code.{clausesOf, allOpposed}
+use Rattle.prenex.specs.Code.{clauses_of, all_opposed}
 use Rattle.prenex.specs.LiteralLaws.{variable-below}
-use Rattle.prenex.specs.OpposedLaws.{allOpposedWith, all-with, codes-over, not-opposed, is-opposed, sees-negative, sees-positive}
+use Rattle.prenex.specs.OpposedLaws.{all_opposed_with, all_with, codes_over, not-opposed, is-opposed, sees_negative, sees_positive}
 use Rattle.prenex.proofs.clause.all_opposed.Statement.{statement}
 use Rattle.prenex.proofs.clause.all_opposed.Tie as tie
 
 abbrev invariant-loop : tie.invariant-loop
 invariant-loop codes positive₀ negative₀ i₀ positive negative i =
-    (i ≤ length codes) × (allOpposed (clausesOf codes) ≡ allOpposedWith positive negative (clausesOf (drop i codes)))
+    (i ≤ length codes) × (all_opposed (clauses_of codes) ≡ all_opposed_with positive negative (clauses_of (drop i codes)))
 
 abbrev decreases-loop : tie.decreases-loop
 decreases-loop codes positive₀ negative₀ i₀ positive negative i = length codes - i
 
 loop-holds : tie.Need-loop-init invariant-loop decreases-loop
-loop-holds c = (omega arith, sym (all-with (clausesOf c.before.args.codes.now)))
+loop-holds c = (omega arith, sym (all_with (clauses_of c.before.args.codes.now)))
 
 shared-slice-read-code : tie.Need-shared-slice-read-code invariant-loop decreases-loop
 shared-slice-read-code c = search rules
@@ -56,13 +56,13 @@ loop-again c =
     (λ w. (
       omega (arith, t),
       rw (w.5, w.6)
-          (l.invariant.1 ∙ sees-negative a l.i l.positive l.negative (omega (arith, p.ended l.i (omega (arith, w.0.left)))) w.0.left
+          (l.invariant.1 ∙ sees_negative a l.i l.positive l.negative (omega (arith, p.ended l.i (omega (arith, w.0.left)))) w.0.left
           (w.2.ensures ∙ ap (λ (x : ℕ). 2 ^ x) w.1.ensures) (sym w.3.ensures ∙ w.4.taken)),
     ))
     (λ w. (
       omega (arith, t),
       rw (w.5, w.6)
-          (l.invariant.1 ∙ sees-positive a l.i l.positive l.negative (omega (arith, p.ended l.i (omega (arith, w.0.left)))) w.0.left
+          (l.invariant.1 ∙ sees_positive a l.i l.positive l.negative (omega (arith, p.ended l.i (omega (arith, w.0.left)))) w.0.left
           (w.2.ensures ∙ ap (λ (x : ℕ). 2 ^ x) w.1.ensures) (sym w.3.ensures ∙ w.4.left)),
     )))
     c.if1.branch
@@ -70,7 +70,7 @@ loop-again c =
 returns-2 : tie.Need-returns-2 invariant-loop decreases-loop
 returns-2 c =
     let l = c.before.loop in
-    sym (l.invariant.1 ∙ codes-over c.before.before.before.args.codes.now l.i l.positive l.negative c.loop-test.false)
+    sym (l.invariant.1 ∙ codes_over c.before.before.before.args.codes.now l.i l.positive l.negative c.loop-test.false)
 
 pub all-opposed-spec : {M : Type 1} → statement M
 all-opposed-spec =

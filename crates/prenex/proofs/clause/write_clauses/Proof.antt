@@ -6,13 +6,13 @@ use mathlib.Core.Logic.{⊎_elim}
 use lib.ListN.{length}
 use Rattle.words.specs.Logic.{not-true, not-false}
 use Rattle.words.specs.Word.{bit}
-use Rattle.prenex.specs.Kinds.{frameBy}
-use Rattle.prenex.specs.ClauseLaws.{Going, going_start, going-none, going_end, going-literal, going_done, frames-short}
+use Rattle.prenex.specs.Kinds.{frame_by}
+use Rattle.prenex.specs.ClauseLaws.{Going, going_start, going_none, going_end, going_literal, going_done, frames-short}
 use Rattle.prenex.proofs.clause.write_clauses.Statement.{statement}
 use Rattle.prenex.proofs.clause.write_clauses.Tie as tie
 
 abbrev invariant-loop : tie.invariant-loop
-invariant-loop codes all negated literals out₀ ends₀ n₀ k₀ at₀ first₀ i₀ out ends n k at first i = Going codes (frameBy (bit all) (bit negated)) literals out₀ ends₀ out ends n k at first i
+invariant-loop codes all negated literals out₀ ends₀ n₀ k₀ at₀ first₀ i₀ out ends n k at first i = Going codes (frame_by (bit all) (bit negated)) literals out₀ ends₀ out ends n k at first i
 
 abbrev decreases-loop : tie.decreases-loop
 decreases-loop codes all negated literals out₀ ends₀ n₀ k₀ at₀ first₀ i₀ out ends n k at first i = length codes - i
@@ -53,9 +53,9 @@ loop-again c =
     ⊎_elim
     (λ w. rw (w.6, w.7, w.8, w.9, w.10, w.11) (going_end l.invariant t w.0.taken (not-true l.first w.1.taken) w.3.ensures))
     (⊎_elim
-    (λ w. rw (w.2, w.3, w.4, w.5, w.6, w.7) (going-none l.invariant t w.0.taken (not-false l.first w.1.left)))
+    (λ w. rw (w.2, w.3, w.4, w.5, w.6, w.7) (going_none l.invariant t w.0.taken (not-false l.first w.1.left)))
     (λ w. rw (w.6, w.7, w.8, w.9, w.10, w.11)
-    (going-literal l.invariant (omega (arith, p.0.ended l.i (omega (arith, w.0.left)))) w.0.left w.1.ensures.0 w.1.ensures.1 w.3.ensures)))
+    (going_literal l.invariant (omega (arith, p.0.ended l.i (omega (arith, w.0.left)))) w.0.left w.1.ensures.0 w.1.ensures.1 w.3.ensures)))
     c.if1.branch
 
 same_length : tie.Need-same-length invariant-loop decreases-loop

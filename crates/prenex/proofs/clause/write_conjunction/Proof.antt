@@ -6,7 +6,7 @@ use mathlib.Core.Logic.{⊎_elim}
 use mathlib.Core.Path.{sym, ◌∙◌}
 use lib.ListN.{length, take}
 use lib.Seq.{get_or-take, length-take-le}
-use Rattle.prenex.specs.ClauseLaws.{Joining, joining-start, joining-first, joining-next, joining-done}
+use Rattle.prenex.specs.ClauseLaws.{Joining, joining_start, joining_first, joining_next, joining_done}
 use Rattle.prenex.proofs.clause.write_conjunction.Statement.{statement}
 use Rattle.prenex.proofs.clause.write_conjunction.Tie as tie
 
@@ -17,7 +17,7 @@ abbrev decreases-loop : tie.decreases-loop
 decreases-loop numbers count n out₀ to₀ at₀ first₀ i₀ out to at first i = count - i
 
 loop-holds : tie.Need-loop-init invariant-loop decreases-loop
-loop-holds c = joining-start c.before.before.requires.4
+loop-holds c = joining_start c.before.before.requires.4
 
 mul-member : tie.Need-overflow-mul-member invariant-loop decreases-loop
 mul-member c = search rules
@@ -61,8 +61,8 @@ loop-again c =
     let h : l.i < length (take a.count a.numbers.now) = omega (arith, t, length-take-le a.count a.numbers.now c.before.before.before.before.before.before.requires.0) in
     let m = sym (get_or-take a.count a.numbers.now l.i 0 t) in
     ⊎_elim
-    (λ w. rw (w.1, w.2, w.3, w.4) (joining-first l.invariant h w.0.taken m))
-    (λ w. rw (w.5, w.6, w.7, w.8 ∙ w.0.left) (joining-next l.invariant h w.0.left m w.2.ensures))
+    (λ w. rw (w.1, w.2, w.3, w.4) (joining_first l.invariant h w.0.taken m))
+    (λ w. rw (w.5, w.6, w.7, w.8 ∙ w.0.left) (joining_next l.invariant h w.0.left m w.2.ensures))
     c.if1.branch
 
 same_length : tie.Need-same-length invariant-loop decreases-loop
@@ -72,7 +72,7 @@ returns : tie.Need-returns invariant-loop decreases-loop
 returns c =
     let a = c.before.before.before.before.args in
     let e = length-take-le a.count a.numbers.now c.before.before.before.before.requires.0 in
-    let t = joining-done c.before.loop.invariant (omega (arith, e, c.loop-test.false)) in
+    let t = joining_done c.before.loop.invariant (omega (arith, e, c.loop-test.false)) in
     (t.0, omega (arith, e, t.1), t.2)
 
 pub write-conjunction-spec : {M : Type 1} → statement M

@@ -3,7 +3,7 @@ use borrow.Author.Rules.{rules}
 use native.Mathlib.Omega.{arith}
 use mathlib.Core.List.{[], ◌∷◌}
 use mathlib.Core.Path.{sym}
-use Rattle.prenex.specs.StoreLaws.{sets-out}
+use Rattle.prenex.specs.StoreLaws.{sets_out}
 use Rattle.prenex.proofs.frame.put.Statement.{statement}
 use Rattle.prenex.proofs.frame.put.Tie as tie
 
@@ -29,7 +29,7 @@ returns : tie.Need-returns
 returns c = search rules
 
 returns-2 : tie.Need-returns-2
-returns-2 c = let a = c.before.before.args in sym (sets-out (a.code ∷ a.a ∷ a.b ∷ a.c ∷ []) a.out.now _ (omega (arith, c.if1.false, c.before.before.requires)))
+returns-2 c = let a = c.before.before.args in sym (sets_out (a.code ∷ a.a ∷ a.b ∷ a.c ∷ []) a.out.now _ (omega (arith, c.if1.false, c.before.before.requires)))
 
 pub put_spec : {M : Type 1} → statement M
 put_spec =

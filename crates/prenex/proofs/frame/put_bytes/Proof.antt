@@ -2,7 +2,7 @@
 use borrow.Author.Rules.{rules}
 use native.Mathlib.Omega.{arith}
 use lib.ListN.{length-set}
-use Rattle.words.specs.Stores.{four-sets}
+use Rattle.words.specs.Stores.{four_sets}
 use Rattle.prenex.proofs.frame.put_bytes.Statement.{statement}
 use Rattle.prenex.proofs.frame.put_bytes.Tie as tie
 
@@ -31,7 +31,7 @@ same_length : tie.Need-same-length
 same_length c = search rules
 
 returns : tie.Need-returns
-returns c = let a = c.args in four-sets a.out.now a.at a.code a.a a.b a.c
+returns c = let a = c.args in four_sets a.out.now a.at a.code a.a a.b a.c
 
 pub put-bytes-spec : {M : Type 1} → statement M
 put-bytes-spec =

@@ -5,7 +5,7 @@ use native.Mathlib.Omega.{arith}
 use mathlib.Core.Logic.{⊎_elim}
 use mathlib.Core.Path.{refl}
 use lib.ListN.{length}
-use Rattle.prenex.specs.LiteralLaws.{Found, found-start, found-end, found-same, found-clause, found-literal}
+use Rattle.prenex.specs.LiteralLaws.{Found, found-start, found-end, found-same, found_clause, found-literal}
 use Rattle.prenex.proofs.literal.find_occurring.Statement.{statement}
 use Rattle.prenex.proofs.literal.find_occurring.Tie as tie
 
@@ -39,7 +39,7 @@ loop-again c =
       omega (arith, t),
       ⊎_elim
           (λ w. found-same codes (l.i + 1) (found-literal codes l.i l.found l.invariant.1 _ t refl w.0.taken _ w.1.ensures) w.2)
-          (λ w. found-same codes (l.i + 1) (found-clause codes l.i l.found l.invariant.1 _ t refl w.0.left) w.1)
+          (λ w. found-same codes (l.i + 1) (found_clause codes l.i l.found l.invariant.1 _ t refl w.0.left) w.1)
           c.if1.branch,
     )
 

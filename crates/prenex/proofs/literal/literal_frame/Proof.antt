@@ -3,9 +3,9 @@ use borrow.Author.Rules.{rules}
 use native.Mathlib.Omega.{arith}
 use mathlib.Core.Path.{sym, ◌∙◌}
 use Rattle.words.specs.Word.{bit}
-use Rattle.prenex.specs.Code.{literalOf}
+use Rattle.prenex.specs.Code.{literal_of}
 use Rattle.prenex.specs.LiteralLaws.{variable-below}
-use Rattle.prenex.specs.ClauseLaws.{frame-negative, frame-positive}
+use Rattle.prenex.specs.ClauseLaws.{frame_negative, frame-positive}
 use Rattle.prenex.proofs.literal.literal_frame.Statement.{statement}
 use Rattle.prenex.proofs.literal.literal_frame.Tie as tie
 
@@ -30,7 +30,7 @@ returns c =
     let a = c.before.before.before.before.before.args in
     let v = c.before.before.before.before.variable.ensures in
     let e = sym c.before.before.before.negative.ensures ∙ c.before.before.if1.true in (
-      omega (arith, c.before.rank.ensures, rw v at c.rank2.ensures.0, frame-negative (bit a.all) (bit a.negated) (literalOf a.code) e),
+      omega (arith, c.before.rank.ensures, rw v at c.rank2.ensures.0, frame_negative (bit a.all) (bit a.negated) (literal_of a.code) e),
       omega (arith, c.before.rank.ensures, c.rank2.ensures, variable-below a.code _ c.before.before.before.before.before.requires.1 v),
     )
 
@@ -43,7 +43,7 @@ returns-2 c =
     let a = c.before.before.before.before.args in
     let v = c.before.before.before.variable.ensures in
     let e = sym c.before.before.negative.ensures ∙ c.before.if1.false in (
-      c.rank3.ensures.0 ∙ rw v (sym (frame-positive (bit a.all) (bit a.negated) (literalOf a.code) e)),
+      c.rank3.ensures.0 ∙ rw v (sym (frame-positive (bit a.all) (bit a.negated) (literal_of a.code) e)),
       omega (arith, c.rank3.ensures, variable-below a.code _ c.before.before.before.before.requires.1 v),
     )
 

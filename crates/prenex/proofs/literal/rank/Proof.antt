@@ -8,7 +8,7 @@ use mathlib.Core.Logic.{⊎_elim}
 use mathlib.Core.Path.{◌≡◌, sym, ◌∙◌}
 use Rattle.words.specs.Word.{bit}
 use Rattle.prenex.specs.Kinds.{count}
-use Rattle.prenex.specs.LiteralLaws.{count_none, count-has, count-lacks}
+use Rattle.prenex.specs.LiteralLaws.{count_none, count_has, count_lacks}
 use Rattle.prenex.proofs.literal.rank.Statement.{statement}
 use Rattle.prenex.proofs.literal.rank.Tie as tie
 
@@ -41,8 +41,8 @@ loop-again c =
     let e : a.x - l.y ≡ suc (a.x - (l.y + 1)) = omega (arith, t) in
     let h = rw e at l.invariant.2 in
     ⊎_elim
-    (λ w. (omega (arith, t), omega (arith, l.invariant, w.1), omega (arith, h, w.1, count-has (bit a.word) l.y (a.x - (l.y + 1)) (sym c.before.has.ensures ∙ w.0.taken))))
-    (λ w. (omega (arith, t), omega (arith, l.invariant, w.1), omega (arith, h, w.1, count-lacks (bit a.word) l.y (a.x - (l.y + 1)) (sym c.before.has.ensures ∙ w.0.left))))
+    (λ w. (omega (arith, t), omega (arith, l.invariant, w.1), omega (arith, h, w.1, count_has (bit a.word) l.y (a.x - (l.y + 1)) (sym c.before.has.ensures ∙ w.0.taken))))
+    (λ w. (omega (arith, t), omega (arith, l.invariant, w.1), omega (arith, h, w.1, count_lacks (bit a.word) l.y (a.x - (l.y + 1)) (sym c.before.has.ensures ∙ w.0.left))))
     c.if1.branch
 
 returns : tie.Need-returns invariant-loop decreases-loop

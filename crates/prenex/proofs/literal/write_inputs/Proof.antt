@@ -7,7 +7,7 @@ use mathlib.Core.Path.{sym, ◌∙◌}
 use Rattle.words.specs.Word.{bit}
 use Rattle.sheet.specs.declared.Kind.TheVariants.{Input}
 use Rattle.prenex.specs.StoreLaws.{input-bytes}
-use Rattle.prenex.specs.LiteralLaws.{Stored, stored-start, stored-has, stored-lacks, stored-end}
+use Rattle.prenex.specs.LiteralLaws.{Stored, stored-start, stored_has, stored_lacks, stored-end}
 use Rattle.prenex.proofs.literal.write_inputs.Statement.{statement}
 use Rattle.prenex.proofs.literal.write_inputs.Tie as tie
 
@@ -49,9 +49,9 @@ loop-again c =
     let has = c.before.has.ensures in (
       omega (arith, t),
       ⊎_elim
-          (λ w. stored-has (bit a.all) Input 0 a.out.now l.x l.n l.out l.invariant.1 t _ _
+          (λ w. stored_has (bit a.all) Input 0 a.out.now l.x l.n l.out l.invariant.1 t _ _
           (sym has ∙ w.0.taken) w.6 (rw input-bytes (w.5 ∙ w.2.ensures)))
-          (λ w. stored-lacks (bit a.all) Input 0 a.out.now l.x l.n l.out l.invariant.1 t _ _
+          (λ w. stored_lacks (bit a.all) Input 0 a.out.now l.x l.n l.out l.invariant.1 t _ _
           (sym has ∙ w.0.left) w.2 w.1)
           c.if1.branch,
     )

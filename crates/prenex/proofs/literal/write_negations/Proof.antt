@@ -9,7 +9,7 @@ use Rattle.sheet.specs.declared.Kind.{Kind}
 use Rattle.sheet.specs.declared.Kind.TheVariants.{Not}
 use Rattle.prenex.specs.Kinds.{count}
 use Rattle.prenex.specs.StoreLaws.{not-bytes}
-use Rattle.prenex.specs.LiteralLaws.{Stored, stored-start, stored-has, stored-lacks, stored-end}
+use Rattle.prenex.specs.LiteralLaws.{Stored, stored-start, stored_has, stored_lacks, stored-end}
 use Rattle.prenex.proofs.literal.write_negations.Statement.{statement}
 use Rattle.prenex.proofs.literal.write_negations.Tie as tie
 
@@ -57,9 +57,9 @@ loop-again c =
     let has = c.before.has.ensures in (
       omega (arith, t),
       ⊎_elim
-          (λ w. stored-has (bit a.negated) (negation a.all) a.inputs a.out.now l.x l.n l.out l.invariant.1 t _ _
+          (λ w. stored_has (bit a.negated) (negation a.all) a.inputs a.out.now l.x l.n l.out l.invariant.1 t _ _
           (sym has ∙ w.0.taken) w.7 (rw (not-bytes, ← w.2.ensures.0) (w.6 ∙ w.3.ensures)))
-          (λ w. stored-lacks (bit a.negated) (negation a.all) a.inputs a.out.now l.x l.n l.out l.invariant.1 t _ _
+          (λ w. stored_lacks (bit a.negated) (negation a.all) a.inputs a.out.now l.x l.n l.out l.invariant.1 t _ _
           (sym has ∙ w.0.left) w.2 w.1)
           c.if1.branch,
     )

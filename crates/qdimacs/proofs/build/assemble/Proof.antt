@@ -6,20 +6,20 @@ use mathlib.Core.Path.{refl, sym}
 use lib.ListN.{length}
 use lib.Seq.{length-take-le}
 use Rattle.prenex.specs.Kinds.{kinds}
-use Rattle.qdimacs.specs.BuildLaws.{first-length, both-length, builds-large, codes-fit, some-frame, count-is, matrix-here, builds-small}
+use Rattle.qdimacs.specs.BuildLaws.{first-length, both-length, builds_large, codes_fit, some-frame, count-is, matrix-here, builds_small}
 use Rattle.qdimacs.proofs.build.assemble.Statement.{statement}
 use Rattle.qdimacs.proofs.build.assemble.Tie as tie
 
 write-matrix-requires : tie.Need-write-matrix-requires
 write-matrix-requires c κs =
     let p = c.before.before.before.before.requires in
-    (codes-fit p.1.arranged, p.1.codes-few, p.0)
+    (codes_fit p.1.arranged, p.1.codes_few, p.0)
 
 write-blocks-requires : tie.Need-write-blocks-requires
 write-blocks-requires c κs =
     let p = c.before.before.before.before.before.before.before.before.requires in
     let m = c.before.before.before.write-matrix.ensures in
-    (some-frame p.1.arranged m.0, m.1, p.1.words-few, first-length c.before.before.before.before.before.before.before.before.args.codes.now c.before.before.before.before.before.before.before.before.args.frames.now p.0 m.2)
+    (some-frame p.1.arranged m.0, m.1, p.1.words_few, first-length c.before.before.before.before.before.before.before.before.args.codes.now c.before.before.before.before.before.before.before.before.args.frames.now p.0 m.2)
 
 too-large-requires : tie.Need-too-large-requires
 too-large-requires c κs = search rules
@@ -29,7 +29,7 @@ same_length c = search rules
 
 returns : tie.Need-returns
 returns c = λ q a.
-    builds-large c.too_large.ensures
+    builds_large c.too_large.ensures
     (omega (arith, c.before.if1.true, count-is a c.before.before.before.before.before.before.before.before.write-matrix.ensures.0 c.before.before.before.before.write-blocks.ensures.0))
 
 mul-size : tie.Need-overflow-mul-size
@@ -69,7 +69,7 @@ returns-2 c = λ q a.
     let m = c.before.before.before.before.before.before.before.before.before.write-matrix.ensures in
     let b = c.before.before.before.before.before.write-blocks.ensures in
     let few : length (kinds q) ≤ 200 = omega (arith, c.before.before.if1.false, count-is a m.0 b.0) in
-    builds-small a m.0 c.before.before.before.before.before.before.before.before.before.before.before.before.before.before.args.frames.now p.0 few m.2 b.1 refl (count-is a m.0 b.0) c.contingent.ensures
+    builds_small a m.0 c.before.before.before.before.before.before.before.before.before.before.before.before.before.before.args.frames.now p.0 few m.2 b.1 refl (count-is a m.0 b.0) c.contingent.ensures
 
 pub assemble-spec : {M : Type 1} → statement M
 assemble-spec =

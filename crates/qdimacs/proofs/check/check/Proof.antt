@@ -4,7 +4,7 @@ use borrow.Author.Tests.{not-true, not-false}
 use mathlib.Core.Path.{refl, sym, ap, ◌∙◌}
 use Rattle.dimacs.specs.Shape.{whole}
 use Rattle.dimacs.specs.declared.shape.State.{State}
-use Rattle.qdimacs.specs.CheckLaws.{shape-broken, atoms-broken, text-well}
+use Rattle.qdimacs.specs.CheckLaws.{shape_broken, atoms-broken, text_well}
 use Rattle.qdimacs.proofs.check.check.Statement.{statement}
 use Rattle.qdimacs.proofs.check.check.Tie as tie
 
@@ -22,7 +22,7 @@ broken-requires c κs = search rules
 
 returns : tie.Need-returns
 returns c =
-    shape-broken c.before.before.before.before.before.before.args.text.now c.before.before.before.before.behind-comments.result c.before.before.before.before.behind-comments.ensures.0
+    shape_broken c.before.before.before.before.before.before.args.text.now c.before.before.before.before.behind-comments.result c.before.before.before.before.behind-comments.ensures.0
     (ap whole (sym c.before.before.before.run.ensures) ∙ sym c.before.before.whole.ensures ∙ not-true _ c.before.if1.true)
     c.broken.ensures
 
@@ -40,7 +40,7 @@ returns-2 c =
 returns-3 : tie.Need-returns-3
 returns-3 c =
     let found = c.before.before.before.before.before.behind-comments.ensures in
-    text-well c.before.before.before.before.before.before.before.args.text.now c.before.before.before.before.before.behind-comments.result found.0 refl found.1
+    text_well c.before.before.before.before.before.before.before.args.text.now c.before.before.before.before.before.behind-comments.result found.0 refl found.1
     (ap whole (sym c.before.before.before.before.run.ensures) ∙ sym c.before.before.before.whole.ensures ∙ not-false _ c.before.before.if1.false)
     (sym c.before.proper-atoms.ensures ∙ not-false _ c.if2.false)
     (ap (λ (s : State). s.variables) c.before.before.before.before.run.ensures)

@@ -2,7 +2,7 @@
 use Prim.Native.Nat.{◌+◌, ◌-◌, ◌*◌}
 use native.Mathlib.Omega.{arith}
 use Rattle.form.specs.declared.Form.TheVariants.{Narrow}
-use Rattle.records.specs.Layout.{part-record}
+use Rattle.records.specs.Layout.{part_record}
 use Rattle.records.specs.Locate.{part-place}
 use borrow.Author.Rules.{rules}
 use Rattle.records.proofs.layout.narrow_part.Statement.{statement}
@@ -32,7 +32,7 @@ part-result-end c = search rules
 returns : tie.Need-returns
 returns c =
     let j = c.before.args.j in
-    record { numbers = part-record Narrow _ j {n = j * 3 + 3 - j * 3} c.before.requires (omega arith); place = part-place _ (j * 3) }
+    record { numbers = part_record Narrow _ j {n = j * 3 + 3 - j * 3} c.before.requires (omega arith); place = part-place _ (j * 3) }
 
 pub narrow-part-spec : {M : Type 1} → statement M
 narrow-part-spec =

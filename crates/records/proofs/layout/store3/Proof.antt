@@ -1,7 +1,7 @@
 -- `records::layout::store3` meets its contract: three stores in a row. Assumes nothing.
 use native.Mathlib.Omega.{arith}
 use lib.ListN.{length-set}
-use Rattle.words.specs.Stores.{three-sets}
+use Rattle.words.specs.Stores.{three_sets}
 use borrow.Author.Rules.{rules}
 use Rattle.records.proofs.layout.store3.Statement.{statement}
 use Rattle.records.proofs.layout.store3.Tie as tie
@@ -34,7 +34,7 @@ same_length : tie.Need-same-length
 same_length c = search rules
 
 returns : tie.Need-returns
-returns c = let a = c.args in three-sets a.table.now a.at a.x0 a.x1 a.x2
+returns c = let a = c.args in three_sets a.table.now a.at a.x0 a.x1 a.x2
 
 pub store3-spec : {M : Type 1} → statement M
 store3-spec =

@@ -1,7 +1,7 @@
 -- `records::layout::store5` meets its contract: two stores behind three. Assumes nothing.
 use native.Mathlib.Omega.{arith}
 use lib.ListN.{length-set}
-use Rattle.words.specs.Stores.{five-sets}
+use Rattle.words.specs.Stores.{five_sets}
 use borrow.Author.Rules.{rules}
 use Rattle.records.proofs.layout.store5.Statement.{statement}
 use Rattle.records.proofs.layout.store5.Tie as tie
@@ -33,7 +33,7 @@ same_length c = search rules
 returns : tie.Need-returns
 returns c =
     let a = c.before.before.before.before.before.args in
-    rw c.before.before.store3.ensures (five-sets a.table.now a.at a.x0 a.x1 a.x2 a.x3 a.x4)
+    rw c.before.before.store3.ensures (five_sets a.table.now a.at a.x0 a.x1 a.x2 a.x3 a.x4)
 
 pub store5-spec : {M : Type 1} → statement M
 store5-spec =

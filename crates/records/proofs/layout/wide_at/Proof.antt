@@ -56,7 +56,7 @@ join-requires-2 : tie.Need-join-requires-2
 join-requires-2 c κs = search rules
 
 returns : tie.Need-returns
-returns c = record { frame_is = refl; mask_is = sym c.before.before.before.join.ensures; values-are = sym c.join2.ensures }
+returns c = record { frame_is = refl; mask_is = sym c.before.before.before.join.ensures; values_are = sym c.join2.ensures }
 
 pub wide-at-spec : {M : Type 1} → statement M
 wide-at-spec =

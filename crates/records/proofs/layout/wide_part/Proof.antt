@@ -2,7 +2,7 @@
 use Prim.Native.Nat.{◌+◌, ◌-◌, ◌*◌}
 use native.Mathlib.Omega.{arith}
 use Rattle.form.specs.declared.Form.TheVariants.{Wide}
-use Rattle.records.specs.Layout.{part-record}
+use Rattle.records.specs.Layout.{part_record}
 use Rattle.records.specs.Locate.{part-place}
 use borrow.Author.Rules.{rules}
 use Rattle.records.proofs.layout.wide_part.Statement.{statement}
@@ -32,7 +32,7 @@ part-result-end c = search rules
 returns : tie.Need-returns
 returns c =
     let j = c.before.args.j in
-    record { numbers = part-record Wide _ j {n = j * 5 + 5 - j * 5} c.before.requires (omega arith); place = part-place _ (j * 5) }
+    record { numbers = part_record Wide _ j {n = j * 5 + 5 - j * 5} c.before.requires (omega arith); place = part-place _ (j * 5) }
 
 pub wide-part-spec : {M : Type 1} → statement M
 wide-part-spec =

@@ -1,7 +1,7 @@
 -- `run::answer::put2` meets its contract.
 use native.Mathlib.Omega.{arith}
 use lib.ListN.{length-set}
-use Rattle.words.specs.Stores.{two-sets}
+use Rattle.words.specs.Stores.{two_sets}
 use borrow.Author.Rules.{rules}
 use Rattle.run.proofs.answer.put2.Statement.{statement}
 use Rattle.run.proofs.answer.put2.Tie as tie
@@ -19,7 +19,7 @@ same_length : tie.Need-same-length
 same_length c = search rules
 
 returns : tie.Need-returns
-returns c = let a = c.args in two-sets a.answers.now a.at a.number a.v
+returns c = let a = c.args in two_sets a.answers.now a.at a.number a.v
 
 pub put2-spec : {M : Type 1} → statement M
 put2-spec =

@@ -1,7 +1,7 @@
 -- `run::answer::put4` meets its contract.
 use native.Mathlib.Omega.{arith}
 use lib.ListN.{length-set}
-use Rattle.words.specs.Stores.{four-sets}
+use Rattle.words.specs.Stores.{four_sets}
 use Rattle.words.specs.Bytes.{bytes_of}
 use borrow.Author.Rules.{rules}
 use Rattle.run.proofs.answer.put4.Statement.{statement}
@@ -45,7 +45,7 @@ same_length c = search rules
 
 returns : tie.Need-returns
 unfolding bytes_of
-returns c = let a = c.before.before.before.before.before.args in simp (c.before.before.before.byte.ensures, c.before.before.byte2.ensures, c.before.byte3.ensures, c.byte4.ensures) (four-sets a.answers.now a.at _ _ _ _)
+returns c = let a = c.before.before.before.before.before.args in simp (c.before.before.before.byte.ensures, c.before.before.byte2.ensures, c.before.byte3.ensures, c.byte4.ensures) (four_sets a.answers.now a.at _ _ _ _)
 
 pub put4-spec : {M : Type 1} → statement M
 put4-spec =

@@ -7,17 +7,17 @@ use borrow.Author.Tests.{not-true}
 use borrow.Author.Rules.{rules}
 use borrow.Fn.Kinds.{In}
 use borrow.Fn.PlainCycle.{Measures, is, falls, and}
-use Rattle.words.specs.Mask.{top_bit, top-less}
-use Rattle.net.specs.Layout.{decides-some, reads-low, flips-below, joins-left, joins-right, binds-below}
-use Rattle.judge.specs.JudgeLaws.{judged-at, judging-none, judging-then}
-use Rattle.judge.specs.CellLaws.{trail-none}
-use Rattle.proxies.specs.Growing.{growing-same, growing-then}
-use Rattle.proxies.specs.KeptLaws.{recorded-told}
-use Rattle.search.specs.SearchLaws.{checked-flip, checked-left, checked-right, lent-after, perNode, body_less}
-use Rattle.search.specs.SearchLaws.{told-met, told-missed, told-known, told-leaf, told-flip, told-left, told-right, told-both, told-shown}
-use Rattle.search.specs.SearchLaws.{known-met, known-lost, posed-cells, posed-checked, posed-half, posed-body}
-use Rattle.imply.specs.ForceLaws.{forced-less, forced-met, posed-forced, pushed-lost}
-use Rattle.imply.specs.Halves.{first-met, second-met, half-lost, both-lost, met-other}
+use Rattle.words.specs.Mask.{top_bit, top_less}
+use Rattle.net.specs.Layout.{decides-some, reads-low, flips_below, joins-left, joins-right, binds-below}
+use Rattle.judge.specs.JudgeLaws.{judged-at, judging_none, judging_then}
+use Rattle.judge.specs.CellLaws.{trail_none}
+use Rattle.proxies.specs.Growing.{growing_same, growing_then}
+use Rattle.proxies.specs.KeptLaws.{recorded_told}
+use Rattle.search.specs.SearchLaws.{checked_flip, checked_left, checked_right, lent-after, per_node, body_less}
+use Rattle.search.specs.SearchLaws.{told_met, told_missed, told-known, told_leaf, told_flip, told-left, told-right, told-both, told-shown}
+use Rattle.search.specs.SearchLaws.{known_met, known-lost, posed_cells, posed_checked, posed_half, posed_body}
+use Rattle.imply.specs.ForceLaws.{forced_less, forced_met, posed_forced, pushed-lost}
+use Rattle.imply.specs.Halves.{first_met, second_met, half-lost, both-lost, met_other}
 use Rattle.search.proofs.cycle.branch.Reads as branch
 use Rattle.search.proofs.cycle.branch.Kinds as branch-kinds
 use Rattle.search.proofs.cycle.+branch_candidate_check_choose_evaluate_extend_gate_push_quantified_settle.Lts-branch as branch-lts
@@ -79,34 +79,34 @@ use Rattle.search.proofs.cycle.+branch_candidate_check_choose_evaluate_extend_ga
 }
 
 abbrev μ-branch : Measures 5 branch-kinds.ps ℕ
-μ-branch κs a = a.1.0 * perNode + (8 * a.1.1.1.0 + 8)
+μ-branch κs a = a.1.0 * per_node + (8 * a.1.1.1.0 + 8)
 
 abbrev μ-candidate : Measures 5 candidate-kinds.ps ℕ
-μ-candidate κs a = a.1.0 * perNode + 6
+μ-candidate κs a = a.1.0 * per_node + 6
 
 abbrev μ-check : Measures 5 check-kinds.ps ℕ
-μ-check κs a = a.1.0 * perNode + 5
+μ-check κs a = a.1.0 * per_node + 5
 
 abbrev μ-choose : Measures 5 choose-kinds.ps ℕ
-μ-choose κs a = a.1.0 * perNode + 2
+μ-choose κs a = a.1.0 * per_node + 2
 
 abbrev μ-evaluate : Measures 5 evaluate-kinds.ps ℕ
-μ-evaluate κs a = a.1.0 * perNode + 4
+μ-evaluate κs a = a.1.0 * per_node + 4
 
 abbrev μ-extend : Measures 5 extend-kinds.ps ℕ
-μ-extend κs a = a.1.0 * perNode + (8 * a.1.1.1.0 + 11)
+μ-extend κs a = a.1.0 * per_node + (8 * a.1.1.1.0 + 11)
 
 abbrev μ-gate : Measures 5 gate-kinds.ps ℕ
-μ-gate κs a = a.1.0 * perNode + 3
+μ-gate κs a = a.1.0 * per_node + 3
 
 abbrev μ-push : Measures 5 push-kinds.ps ℕ
-μ-push κs a = a.1.0 * perNode + (8 * a.1.1.1.0 + 9)
+μ-push κs a = a.1.0 * per_node + (8 * a.1.1.1.0 + 9)
 
 abbrev μ-quantified : Measures 5 quantified-kinds.ps ℕ
-μ-quantified κs a = a.1.0 * perNode + 3
+μ-quantified κs a = a.1.0 * per_node + 3
 
 abbrev μ-settle : Measures 5 settle-kinds.ps ℕ
-μ-settle κs a = a.1.0 * perNode + (8 * a.1.1.1.0 + 10)
+μ-settle κs a = a.1.0 * per_node + (8 * a.1.1.1.0 + 10)
 
 abbrev branch-at : ℕ → In 5 branch-kinds.ps
 branch-at t = and 5 branch-kinds.ps (is 5 branch-kinds.ps μ-branch t) branch.Pre
@@ -314,9 +314,9 @@ branch-extend-requires t c κs =
     let highest° = c.before.before.before.before.before.before.before.before.highest in
     let one° = c.before.before.before.before.before.before.before.one in
     let without° = c.before.before.before.before.before.before.without in (
-      omega (arith, pre°.0, top-less highest°.ensures.0 one°.ensures without°.ensures),
+      omega (arith, pre°.0, top_less highest°.ensures.0 one°.ensures without°.ensures),
       (
-        posed-half (top_bit highest°.ensures.0) highest°.ensures.1 one°.ensures without°.ensures pre°.1.1.0 c.before.before.before.before.fix.ensures,
+        posed_half (top_bit highest°.ensures.0) highest°.ensures.1 one°.ensures without°.ensures pre°.1.1.0 c.before.before.before.before.fix.ensures,
         pre°.1.1.1,
       ),
     )
@@ -338,7 +338,7 @@ branch-returns t c =
     let highest° = c.before.before.before.before.before.before.before.before.before.before.before.before.before.before.before.before.before.before.highest in
     let extend° = c.before.before.before.before.before.before.before.before.before.extend in (
       (
-        rw c.if1.taken (first-met highest°.ensures.0 highest°.ensures.1 c.before.before.before.before.before.before.before.before.before.before.before.before.before.before.before.before.before.one.ensures c.before.before.before.before.before.before.before.before.before.before.before.before.before.before.before.before.without.ensures c.before.before.before.before.before.before.before.before.before.before.before.before.before.before.before.before.before.before.before.before.before.before.before.before.pre.1.1.0.free _ c.before.before.before.before.before.before.before.before.before.before.before.before.before.before.before.one-first.ensures c.before.before.before.before.before.before.before.before.before.before.before.before.before.before.fix.ensures (rw c.if1.taken at extend°.ensures.0.0)),
+        rw c.if1.taken (first_met highest°.ensures.0 highest°.ensures.1 c.before.before.before.before.before.before.before.before.before.before.before.before.before.before.before.before.before.one.ensures c.before.before.before.before.before.before.before.before.before.before.before.before.before.before.before.before.without.ensures c.before.before.before.before.before.before.before.before.before.before.before.before.before.before.before.before.before.before.before.before.before.before.before.before.pre.1.1.0.free _ c.before.before.before.before.before.before.before.before.before.before.before.before.before.before.before.one-first.ensures c.before.before.before.before.before.before.before.before.before.before.before.before.before.before.fix.ensures (rw c.if1.taken at extend°.ensures.0.0)),
         extend°.ensures.0.1,
       ),
       extend°.ensures.1,
@@ -381,9 +381,9 @@ branch-extend-requires-2 t c κs =
     let one° = c.before.before.before.before.before.before.before.before.before.before.before.before.before.before.before.before.before.before.before.before.before.before.before.before.before.one in
     let without° = c.before.before.before.before.before.before.before.before.before.before.before.before.before.before.before.before.before.before.before.before.before.before.before.before.without in
     let extend° = c.before.before.before.before.before.before.before.before.before.before.before.before.before.before.before.before.before.extend in (
-      omega (arith, pre°.0, top-less highest°.ensures.0 one°.ensures without°.ensures),
+      omega (arith, pre°.0, top_less highest°.ensures.0 one°.ensures without°.ensures),
       (
-        rw extend°.ensures.0.1 (posed-half (top_bit highest°.ensures.0) highest°.ensures.1 one°.ensures without°.ensures pre°.1.1.0 c.before.before.before.before.before.fix2.ensures),
+        rw extend°.ensures.0.1 (posed_half (top_bit highest°.ensures.0) highest°.ensures.1 one°.ensures without°.ensures pre°.1.1.0 c.before.before.before.before.before.fix2.ensures),
         lent-after pre°.1.1.1 extend°.ensures.1 c.before.before.before.before.before.before.before.before.before.before.before.before.before.before.wants.given,
       ),
     )
@@ -406,10 +406,10 @@ branch-returns-3 t c =
     let extend° = c.before.before.before.before.before.before.before.before.before.before.before.before.before.before.before.before.before.before.before.before.before.before.before.before.before.before.before.extend in
     let extend2° = c.before.before.before.before.before.before.before.before.before.extend2 in (
       (
-        rw c.if3.taken (second-met highest°.ensures.0 highest°.ensures.1 c.before.before.before.before.before.before.before.before.before.before.before.before.before.before.before.before.before.before.before.before.before.before.before.before.before.before.before.before.before.before.before.before.before.before.before.one.ensures c.before.before.before.before.before.before.before.before.before.before.before.before.before.before.before.before.before.before.before.before.before.before.before.before.before.before.before.before.before.before.before.before.before.before.without.ensures c.before.before.before.before.before.before.before.before.before.before.before.before.before.before.before.before.before.before.before.before.before.before.before.before.before.before.before.before.before.before.before.before.before.before.before.before.before.before.before.before.before.before.pre.1.1.0.free _ c.before.before.before.before.before.before.before.before.before.before.before.before.before.before.before.before.before.before.before.before.before.before.before.before.before.before.before.before.before.before.before.before.fix.ensures (rw c.before.before.before.before.before.before.before.before.before.before.before.before.before.before.before.before.before.before.if1.left at extend°.ensures.0.0) c.before.before.before.before.before.before.before.before.before.before.before.before.before.before.before.fix2.ensures (rw c.if3.taken at extend2°.ensures.0.0)),
+        rw c.if3.taken (second_met highest°.ensures.0 highest°.ensures.1 c.before.before.before.before.before.before.before.before.before.before.before.before.before.before.before.before.before.before.before.before.before.before.before.before.before.before.before.before.before.before.before.before.before.before.before.one.ensures c.before.before.before.before.before.before.before.before.before.before.before.before.before.before.before.before.before.before.before.before.before.before.before.before.before.before.before.before.before.before.before.before.before.before.without.ensures c.before.before.before.before.before.before.before.before.before.before.before.before.before.before.before.before.before.before.before.before.before.before.before.before.before.before.before.before.before.before.before.before.before.before.before.before.before.before.before.before.before.before.pre.1.1.0.free _ c.before.before.before.before.before.before.before.before.before.before.before.before.before.before.before.before.before.before.before.before.before.before.before.before.before.before.before.before.before.before.before.before.fix.ensures (rw c.before.before.before.before.before.before.before.before.before.before.before.before.before.before.before.before.before.before.if1.left at extend°.ensures.0.0) c.before.before.before.before.before.before.before.before.before.before.before.before.before.before.before.fix2.ensures (rw c.if3.taken at extend2°.ensures.0.0)),
         extend2°.ensures.0.1 ∙ extend°.ensures.0.1,
       ),
-      growing-then extend°.ensures.1 extend2°.ensures.1,
+      growing_then extend°.ensures.1 extend2°.ensures.1,
     )
 
 branch-has-requires-2 : (t : ℕ) → branch-lts.Need-has-requires-2 (branch-claims t) (branch-at t) branch.Post
@@ -437,7 +437,7 @@ branch-returns-4 t c =
         rw if3°.left (half-lost highest°.ensures.0 highest°.ensures.1 c.before.before.before.before.before.before.before.before.before.before.before.before.before.before.before.before.before.before.before.before.before.before.before.before.before.before.before.before.before.before.before.before.before.before.before.before.before.one.ensures c.before.before.before.before.before.before.before.before.before.before.before.before.before.before.before.before.before.before.before.before.before.before.before.before.before.before.before.before.before.before.before.before.before.before.before.before.without.ensures c.before.before.before.before.before.before.before.before.before.before.before.before.before.before.before.before.before.before.before.before.before.before.before.before.before.before.before.before.before.before.before.before.before.before.before.before.before.before.before.before.before.before.before.before.pre.1.1.0.free _ c.before.before.before.before.before.before.before.before.before.before.before.before.before.before.before.before.before.fix2.ensures (rw if3°.left at extend2°.ensures.0.0) (sym c.before.has2.ensures ∙ not-true _ c.if4.taken)),
         extend2°.ensures.0.1 ∙ extend°.ensures.0.1,
       ),
-      growing-then extend°.ensures.1 extend2°.ensures.1,
+      growing_then extend°.ensures.1 extend2°.ensures.1,
     )
 
 branch-without-requires-2 : (t : ℕ) → branch-lts.Need-without-requires-2 (branch-claims t) (branch-at t) branch.Post
@@ -464,7 +464,7 @@ branch-returns-5 t c =
         both-lost highest°.ensures.0 highest°.ensures.1 c.before.before.before.before.before.before.before.before.before.before.before.before.before.before.before.before.before.before.before.before.before.before.before.before.before.before.before.before.before.before.before.before.before.before.before.before.before.before.before.before.before.one.ensures c.before.before.before.before.before.before.before.before.before.before.before.before.before.before.before.before.before.before.before.before.before.before.before.before.before.before.before.before.before.before.before.before.before.before.before.before.before.before.before.before.without.ensures c.before.before.before.before.before.before.before.before.before.before.before.before.before.before.before.before.before.before.before.before.before.before.before.before.before.before.before.before.before.before.before.before.before.before.before.before.before.before.before.before.before.before.before.before.before.before.before.before.pre.1.1.0.free _ c.before.before.before.before.before.before.before.before.before.before.before.before.before.before.before.before.before.before.before.before.before.before.before.before.before.before.before.before.before.before.before.before.before.before.before.before.before.before.fix.ensures (rw c.before.before.before.before.before.before.before.before.before.before.before.before.before.before.before.before.before.before.before.before.before.before.before.before.if1.left at extend°.ensures.0.0) c.before.before.before.before.before.before.before.before.before.before.before.before.before.before.before.before.before.before.before.before.before.fix2.ensures (rw c.before.before.before.before.before.before.if3.left at extend2°.ensures.0.0) c.without2.ensures,
         extend2°.ensures.0.1 ∙ extend°.ensures.0.1,
       ),
-      growing-then extend°.ensures.1 extend2°.ensures.1,
+      growing_then extend°.ensures.1 extend2°.ensures.1,
     )
 
 -- ---- candidate
@@ -472,10 +472,10 @@ branch-returns-5 t c =
 candidate-check-requires : (t : ℕ) → candidate-lts.Need-check-requires (candidate-claims t) (candidate-at t) candidate.Post
 candidate-check-requires t c κs =
     let pre° = c.before.before.before.before.before.before.before.before.before.pre in
-    (omega (arith, pre°.0), ((pre°.1.0.here, posed-checked pre°.1.0 refl), pre°.1.1))
+    (omega (arith, pre°.0), ((pre°.1.0.here, posed_checked pre°.1.0 refl), pre°.1.1))
 
 candidate-undo-requires : (t : ℕ) → candidate-lts.Need-undo-requires (candidate-claims t) (candidate-at t) candidate.Post
-candidate-undo-requires t c κs = (_, c.before.before.before.before.before.before.before.before.before.check.ensures.0.1.keeps _ (trail-none refl refl))
+candidate-undo-requires t c κs = (_, c.before.before.before.before.before.before.before.before.before.check.ensures.0.1.keeps _ (trail_none refl refl))
 
 candidate-same-length : (t : ℕ) → candidate-lts.Need-same-length (candidate-claims t) (candidate-at t) candidate.Post
 candidate-same-length t c = c.before.before.before.before.cells2.given ∙ c.before.before.before.before.before.before.before.before.before.before.before.before.before.before.cells.given
@@ -493,8 +493,8 @@ candidate-returns : (t : ℕ) → candidate-lts.Need-returns (candidate-claims t
 candidate-returns t c =
     let check° = c.before.before.before.before.before.before.before.before.before.before.before.before.before.before.before.check in (
       (
-        told-met c.before.before.before.before.before.before.before.before.before.before.before.before.before.before.before.before.before.before.before.before.before.before.before.before.before.pre.1.0 check°.ensures.0.0 c.if1.taken,
-        c.before.before.before.before.before.undo.ensures _ (check°.ensures.0.1.keeps _ (trail-none refl refl)),
+        told_met c.before.before.before.before.before.before.before.before.before.before.before.before.before.before.before.before.before.before.before.before.before.before.before.before.before.pre.1.0 check°.ensures.0.0 c.if1.taken,
+        c.before.before.before.before.before.undo.ensures _ (check°.ensures.0.1.keeps _ (trail_none refl refl)),
       ),
       check°.ensures.1,
     )
@@ -515,8 +515,8 @@ candidate-returns-2 : (t : ℕ) → candidate-lts.Need-returns-2 (candidate-clai
 candidate-returns-2 t c =
     let check° = c.before.before.before.before.before.before.before.before.before.before.before.before.before.before.before.check in (
       (
-        told-missed c.before.before.before.before.before.before.before.before.before.before.before.before.before.before.before.before.before.before.before.before.before.before.before.before.before.pre.1.0 check°.ensures.0.0 c.if1.left,
-        c.before.before.before.before.before.undo.ensures _ (check°.ensures.0.1.keeps _ (trail-none refl refl)),
+        told_missed c.before.before.before.before.before.before.before.before.before.before.before.before.before.before.before.before.before.before.before.before.before.before.before.before.before.pre.1.0 check°.ensures.0.0 c.if1.left,
+        c.before.before.before.before.before.undo.ensures _ (check°.ensures.0.1.keeps _ (trail_none refl refl)),
       ),
       check°.ensures.1,
     )
@@ -537,9 +537,9 @@ check-returns t c =
     let known-at° = c.before.before.known_at_lem in (
       (
         told-known (omega (arith, c.if1.taken)) (judged-at pre°.1.0.1.judged known-at°.ensures.0 known-at°.ensures.1),
-        judging-none pre°.1.0.1.judged,
+        judging_none pre°.1.0.1.judged,
       ),
-      growing-same,
+      growing_same,
     )
 
 check-evaluate-requires : (t : ℕ) → check-lts.Need-evaluate-requires (check-claims t) (check-at t) check.Post
@@ -574,7 +574,7 @@ check-returns-2 t c =
     let evaluate° = c.before.before.before.before.before.before.before.before.before.before.before.before.before.evaluate in (
       (
         evaluate°.ensures.0.0,
-        judging-then evaluate°.ensures.0.1 (c.before.before.before.keep.ensures _ _ _ evaluate°.ensures.0.1.judged (λ s. evaluate°.ensures.0.0.forced)),
+        judging_then evaluate°.ensures.0.1 (c.before.before.before.keep.ensures _ _ _ evaluate°.ensures.0.1.judged (λ s. evaluate°.ensures.0.0.forced)),
       ),
       evaluate°.ensures.1,
     )
@@ -593,7 +593,7 @@ choose-extend-requires t c κs =
     let free-all° = c.before.before.before.before.before.free_all in (
       body_less pre°.0 (binds-below pre°.1.1.0.ground pre°.1.0.0 pre°.1.0.1) (omega (arith, c.before.before.before.before.before.before.before.before.before.before.before.good.1.1.0)),
       (
-        posed-body pre°.1.1.0 pre°.1.0.0 pre°.1.0.1 c.before.before.before.before.decided.ensures free-all°.ensures.mask free-all°.ensures.values,
+        posed_body pre°.1.1.0 pre°.1.0.0 pre°.1.0.1 c.before.before.before.before.decided.ensures free-all°.ensures.mask free-all°.ensures.values,
         pre°.1.1.1,
       ),
     )
@@ -624,7 +624,7 @@ choose-returns : (t : ℕ) → choose-lts.Need-returns (choose-claims t) (choose
 choose-returns t c =
     let extend° = c.before.before.before.before.before.before.before.before.before.before.before.before.before.before.extend in (
       (
-        rw (c.before.before.before.before.before.before.before.before.before.before.before.before.before.before.before.before.before.before.before.decided.ensures, c.before.before.before.before.before.before.before.before.before.before.before.before.before.before.before.before.before.before.before.before.free_all.ensures.values) at (met-other (rw c.before.before.before.before.before.if1.taken at extend°.ensures.0.0) c.before.before.before.implicant.ensures.0),
+        rw (c.before.before.before.before.before.before.before.before.before.before.before.before.before.before.before.before.before.before.before.decided.ensures, c.before.before.before.before.before.before.before.before.before.before.before.before.before.before.before.before.before.before.before.before.free_all.ensures.values) at (met_other (rw c.before.before.before.before.before.if1.taken at extend°.ensures.0.0) c.before.before.before.implicant.ensures.0),
         extend°.ensures.0.1,
       ),
       extend°.ensures.1,
@@ -669,10 +669,10 @@ evaluate-returns : (t : ℕ) → evaluate-lts.Need-returns (evaluate-claims t) (
 evaluate-returns t c =
     let pre° = c.before.before.before.before.before.before.before.before.pre in (
       (
-        told-leaf pre°.1.0.1 c.before.before.Node-at.ensures.0 c.before.if1.taken c.leaf.ensures,
-        judging-none pre°.1.0.1.judged,
+        told_leaf pre°.1.0.1 c.before.before.Node-at.ensures.0 c.before.if1.taken c.leaf.ensures,
+        judging_none pre°.1.0.1.judged,
       ),
-      growing-same,
+      growing_same,
     )
 
 evaluate-check-requires : (t : ℕ) → evaluate-lts.Need-check-requires (evaluate-claims t) (evaluate-at t) evaluate.Post
@@ -680,8 +680,8 @@ evaluate-check-requires t c κs =
     let pre° = c.before.before.before.before.before.before.before.before.before.before.before.before.pre in
     let node-at° = c.before.before.before.before.before.before.Node-at in
     let if2° = c.before.before.before.before.if2 in (
-      omega (arith, pre°.0, flips-below pre°.1.0.1.ground node-at°.ensures.0 if2°.taken),
-      (checked-flip pre°.1.0.1 node-at°.ensures.0 if2°.taken pre°.1.0.1.judged, pre°.1.1),
+      omega (arith, pre°.0, flips_below pre°.1.0.1.ground node-at°.ensures.0 if2°.taken),
+      (checked_flip pre°.1.0.1 node-at°.ensures.0 if2°.taken pre°.1.0.1.judged, pre°.1.1),
     )
 
 evaluate-sub-t24 : (t : ℕ) → evaluate-lts.Need-sub-t24 (evaluate-claims t) (evaluate-at t) evaluate.Post
@@ -703,7 +703,7 @@ evaluate-returns-2 : (t : ℕ) → evaluate-lts.Need-returns-2 (evaluate-claims 
 evaluate-returns-2 t c =
     let check° = c.before.before.before.before.before.before.before.before.before.before.check in (
       (
-        told-flip c.before.before.before.before.before.before.before.before.before.before.before.before.before.before.before.before.before.before.before.before.before.before.before.pre.1.0.1 c.before.before.before.before.before.before.before.before.before.before.before.before.before.before.before.before.before.Node-at.ensures.0 c.before.before.before.before.before.before.before.before.before.before.before.before.before.before.before.if2.taken check°.ensures.0.0,
+        told_flip c.before.before.before.before.before.before.before.before.before.before.before.before.before.before.before.before.before.before.before.before.before.before.before.pre.1.0.1 c.before.before.before.before.before.before.before.before.before.before.before.before.before.before.before.before.before.Node-at.ensures.0 c.before.before.before.before.before.before.before.before.before.before.before.before.before.before.before.if2.taken check°.ensures.0.0,
         check°.ensures.0.1,
       ),
       check°.ensures.1,
@@ -781,10 +781,10 @@ extend-judge-requires t c κs =
 extend-settle-requires : (t : ℕ) → extend-lts.Need-settle-requires (extend-claims t) (extend-at t) extend.Post
 extend-settle-requires t c κs =
     let pre° = c.before.before.before.before.before.before.before.before.before.before.before.before.before.before.pre in
-    (omega (arith, pre°.0), (posed-cells pre°.1.0 c.before.before.before.before.before.before.judge.ensures.judged, pre°.1.1))
+    (omega (arith, pre°.0), (posed_cells pre°.1.0 c.before.before.before.before.before.before.judge.ensures.judged, pre°.1.1))
 
 extend-undo-requires : (t : ℕ) → extend-lts.Need-undo-requires (extend-claims t) (extend-at t) extend.Post
-extend-undo-requires t c κs = rw c.before.before.before.before.before.before.before.before.before.settle.ensures.0.1 (_, c.before.before.before.before.before.before.before.before.before.before.before.before.before.before.before.before.judge.ensures.keeps _ (trail-none refl refl))
+extend-undo-requires t c κs = rw c.before.before.before.before.before.before.before.before.before.settle.ensures.0.1 (_, c.before.before.before.before.before.before.before.before.before.before.before.before.before.before.before.before.judge.ensures.keeps _ (trail_none refl refl))
 
 extend-same-length : (t : ℕ) → extend-lts.Need-same-length (extend-claims t) (extend-at t) extend.Post
 extend-same-length t c = c.before.cells3.given ∙ c.before.before.before.before.before.before.before.before.before.before.before.cells2.given ∙ c.before.before.before.before.before.before.before.before.before.before.before.before.before.before.before.before.before.before.cells.given
@@ -803,7 +803,7 @@ extend-returns t c =
     let settle° = c.before.before.before.before.before.before.before.before.before.before.before.before.settle in (
       (
         settle°.ensures.0.0,
-        c.before.before.undo.ensures _ (rw settle°.ensures.0.1 (c.before.before.before.before.before.before.before.before.before.before.before.before.before.before.before.before.before.before.before.judge.ensures.keeps _ (trail-none refl refl))),
+        c.before.before.undo.ensures _ (rw settle°.ensures.0.1 (c.before.before.before.before.before.before.before.before.before.before.before.before.before.before.before.before.before.before.before.judge.ensures.keeps _ (trail_none refl refl))),
       ),
       settle°.ensures.1,
     )
@@ -817,7 +817,7 @@ gate-check-requires : (t : ℕ) → gate-lts.Need-check-requires (gate-claims t)
 gate-check-requires t c κs =
     let pre° = c.before.before.before.before.before.before.before.before.before.before.pre in (
       omega (arith, pre°.0, joins-left pre°.1.1.0.1.ground pre°.1.0.0 pre°.1.0.1 pre°.1.0.2),
-      (checked-left pre°.1.1.0.1 pre°.1.0.0 pre°.1.0.1 pre°.1.0.2 pre°.1.1.0.1.judged, pre°.1.1.1),
+      (checked_left pre°.1.1.0.1 pre°.1.0.0 pre°.1.0.1 pre°.1.0.2 pre°.1.1.0.1.judged, pre°.1.1.1),
     )
 
 gate-same-length : (t : ℕ) → gate-lts.Need-same-length (gate-claims t) (gate-at t) gate.Post
@@ -849,7 +849,7 @@ gate-check-requires-2 t c κs =
     let check° = c.before.before.before.before.before.before.before.before.before.before.before.before.before.before.before.check in (
       omega (arith, pre°.0, joins-right pre°.1.1.0.1.ground pre°.1.0.0 pre°.1.0.1 pre°.1.0.2),
       (
-        checked-right pre°.1.1.0.1 pre°.1.0.0 pre°.1.0.1 pre°.1.0.2 check°.ensures.0.1.judged,
+        checked_right pre°.1.1.0.1 pre°.1.0.0 pre°.1.0.1 pre°.1.0.2 check°.ensures.0.1.judged,
         lent-after pre°.1.1.1 check°.ensures.1 c.before.before.before.before.before.before.before.before.before.before.before.before.wants.given,
       ),
     )
@@ -873,9 +873,9 @@ gate-returns-2 t c =
     let check° = c.before.before.before.before.before.before.before.before.before.before.before.before.before.before.before.before.before.before.before.before.before.before.before.before.before.before.check in (
       (
         told-right pre°.1.1.0.1 pre°.1.0.0 pre°.1.0.1 pre°.1.0.2 refl check2°.ensures.0.0 c.if2.taken,
-        judging-then check°.ensures.0.1 check2°.ensures.0.1,
+        judging_then check°.ensures.0.1 check2°.ensures.0.1,
       ),
-      growing-then check°.ensures.1 check2°.ensures.1,
+      growing_then check°.ensures.1 check2°.ensures.1,
     )
 
 gate-same-length-9 : (t : ℕ) → gate-lts.Need-same-length-9 (gate-claims t) (gate-at t) gate.Post
@@ -897,9 +897,9 @@ gate-returns-3 t c =
     let check2° = c.before.before.before.before.before.before.before.before.before.before.before.before.before.check2 in (
       (
         told-both pre°.1.1.0.1 pre°.1.0.0 pre°.1.0.1 pre°.1.0.2 refl check°.ensures.0.0 c.before.before.before.before.before.before.before.before.before.before.before.before.before.before.before.before.before.before.before.if1.left check2°.ensures.0.0 c.before.before.before.if2.left,
-        judging-then check°.ensures.0.1 check2°.ensures.0.1,
+        judging_then check°.ensures.0.1 check2°.ensures.0.1,
       ),
-      growing-then check°.ensures.1 check2°.ensures.1,
+      growing_then check°.ensures.1 check2°.ensures.1,
     )
 
 -- ---- push
@@ -923,7 +923,7 @@ push-same-length-2 t c = c.before.before.wants2.given ∙ c.before.before.before
 push-returns : (t : ℕ) → push-lts.Need-returns (push-claims t) (push_at t) push.Post
 push-returns t c =
     let solve° = c.before.before.before.solve in
-    ((solve°.ensures.0 c.if2.taken, refl), growing-same)
+    ((solve°.ensures.0 c.if2.taken, refl), growing_same)
 
 push-branch-requires : (t : ℕ) → push-lts.Need-branch-requires (push-claims t) (push_at t) push.Post
 push-branch-requires t c κs =
@@ -933,7 +933,7 @@ push-branch-requires t c κs =
         pre°.1.0,
         (
           pre°.1.1.0,
-          lent-after pre°.1.1.1 growing-same (c.before.before.before.before.before.before.before.solve.ensures.1 ∙ c.before.before.before.before.before.before.before.before.before.before.before.before.before.before.force.ensures.1),
+          lent-after pre°.1.1.1 growing_same (c.before.before.before.before.before.before.before.solve.ensures.1 ∙ c.before.before.before.before.before.before.before.before.before.before.before.before.before.before.force.ensures.1),
         ),
       ),
     )
@@ -968,10 +968,10 @@ push-extend-requires t c κs =
     let pre° = c.before.before.before.before.before.before.before.before.before.before.before.before.before.before.before.before.before.before.before.before.before.before.pre in
     let force° = c.before.before.before.before.before.before.before.before.before.before.before.before.before.force in
     let without° = c.before.before.before.before.before.before.before.before.without in (
-      omega (arith, pre°.0, forced-less force°.ensures.0 pre°.1.1.0.free without°.ensures refl refl (omega (arith, c.before.before.before.before.before.before.before.before.before.if1.left))),
+      omega (arith, pre°.0, forced_less force°.ensures.0 pre°.1.1.0.free without°.ensures refl refl (omega (arith, c.before.before.before.before.before.before.before.before.before.if1.left))),
       (
-        posed-forced pre°.1.1.0 force°.ensures.0 without°.ensures refl refl,
-        lent-after pre°.1.1.1 growing-same force°.ensures.1,
+        posed_forced pre°.1.1.0 force°.ensures.0 without°.ensures refl refl,
+        lent-after pre°.1.1.1 growing_same force°.ensures.1,
       ),
     )
 
@@ -992,7 +992,7 @@ push-returns-3 t c =
     let force° = c.before.before.before.before.before.before.before.before.before.before.before.before.before.before.before.before.before.before.before.before.before.before.before.force in
     let extend° = c.before.before.before.before.before.before.before.before.before.extend in (
       (
-        rw c.if3.taken (forced-met force°.ensures.0 c.before.before.before.before.before.before.before.before.before.before.before.before.before.before.before.before.before.before.before.before.before.before.before.before.before.before.before.before.before.before.before.before.pre.1.1.0.free c.before.before.before.before.before.before.before.before.before.before.before.before.before.before.before.before.before.before.without.ensures refl refl (rw c.if3.taken at extend°.ensures.0.0)),
+        rw c.if3.taken (forced_met force°.ensures.0 c.before.before.before.before.before.before.before.before.before.before.before.before.before.before.before.before.before.before.before.before.before.before.before.before.before.before.before.before.before.before.before.before.pre.1.1.0.free c.before.before.before.before.before.before.before.before.before.before.before.before.before.before.before.before.before.before.without.ensures refl refl (rw c.if3.taken at extend°.ensures.0.0)),
         extend°.ensures.0.1,
       ),
       extend°.ensures.1,
@@ -1044,8 +1044,8 @@ quantified-same-length-2 t c = refl
 quantified-returns : (t : ℕ) → quantified-lts.Need-returns (quantified-claims t) (quantified-at t) quantified.Post
 quantified-returns t c =
     let pre° = c.before.before.before.before.before.before.before.before.before.before.pre in
-    let both = recorded-told pre°.1.1.0.1.ground pre°.1.1.1.faithful pre°.1.1.1.tables pre°.1.1.0.1.covers (omega (arith, c.if1.taken)) c.before.before.recorded.ensures in
-    ((both.0, judging-none pre°.1.1.0.1.judged), (growing-same, λ l q. both.1))
+    let both = recorded_told pre°.1.1.0.1.ground pre°.1.1.1.faithful pre°.1.1.1.tables pre°.1.1.0.1.covers (omega (arith, c.if1.taken)) c.before.before.recorded.ensures in
+    ((both.0, judging_none pre°.1.1.0.1.judged), (growing_same, λ l q. both.1))
 
 quantified-choose-requires : (t : ℕ) → quantified-lts.Need-choose-requires (quantified-claims t) (quantified-at t) quantified.Post
 quantified-choose-requires t c κs =
@@ -1080,8 +1080,8 @@ quantified-returns-2 t c =
     let choose° = c.before.before.before.before.before.before.before.before.before.before.before.before.before.before.before.before.before.choose in
     let told = told-shown pre°.1.1.0.1 pre°.1.0.0 pre°.1.0.1 _ _ choose°.ensures.0.0 c.before.before.before.before.before.before.before.before.body-shows.ensures in
     let noted = c.before.before.before.before.note.ensures told.forced.explains in (
-      (told, rw choose°.ensures.0.1 (judging-none pre°.1.1.0.1.judged)),
-      (growing-then choose°.ensures.1 noted.0, noted.1),
+      (told, rw choose°.ensures.0.1 (judging_none pre°.1.1.0.1.judged)),
+      (growing_then choose°.ensures.1 noted.0, noted.1),
     )
 
 -- ---- settle
@@ -1099,10 +1099,10 @@ settle-returns t c =
     let pre° = c.before.before.before.before.before.before.before.before.before.before.before.pre in
     let known-at° = c.before.before.before.before.known_at_lem in (
       (
-        known-met pre°.1.0 (omega (arith, c.before.before.if1.taken)) (judged-at pre°.1.0.judged known-at°.ensures.0 known-at°.ensures.1) c.if2.taken,
+        known_met pre°.1.0 (omega (arith, c.before.before.if1.taken)) (judged-at pre°.1.0.judged known-at°.ensures.0 known-at°.ensures.1) c.if2.taken,
         refl,
       ),
-      growing-same,
+      growing_same,
     )
 
 settle-same-length-2 : (t : ℕ) → settle-lts.Need-same-length-2 (settle-claims t) (settle-at t) settle.Post
@@ -1116,7 +1116,7 @@ settle-returns-2 t c =
         known-lost pre°.1.0 (omega (arith, c.before.before.if1.taken)) (judged-at pre°.1.0.judged known-at°.ensures.0 known-at°.ensures.1) c.if2.left,
         refl,
       ),
-      growing-same,
+      growing_same,
     )
 
 settle-candidate-requires : (t : ℕ) → settle-lts.Need-candidate-requires (settle-claims t) (settle-at t) settle.Post

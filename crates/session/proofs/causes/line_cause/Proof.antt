@@ -2,7 +2,7 @@
 use borrow.Author.Rules.{rules}
 use mathlib.Core.Path.{sym, ◌∙◌}
 use Rattle.session.specs.Sound.{length-standing}
-use Rattle.model.specs.Causes.{refusal-unknown, refusal-enter, refusal-take-back, refusal-read, refusal-search}
+use Rattle.model.specs.Causes.{refusal-unknown, refusal_enter, refusal-take_back, refusal_read, refusal_search}
 use Rattle.session.proofs.causes.line_cause.Statement.{statement}
 use Rattle.session.proofs.causes.line_cause.Tie as tie
 
@@ -18,7 +18,7 @@ enter-cause-requires c κs = search rules
 returns-2 : tie.Need-returns-2
 returns-2 c m o =
     let known = sym c.before.before.before.unknown.ensures ∙ c.before.before.if1.false in
-    rw (refusal-enter m _ _ _ _ _ known _ o c.before.if2.true, ← c.before.before.before.before.requires.words.mask_is) c.enter-cause.ensures
+    rw (refusal_enter m _ _ _ _ _ known _ o c.before.if2.true, ← c.before.before.before.before.requires.words.mask_is) c.enter-cause.ensures
 
 take-back-cause-requires : tie.Need-take-back-cause-requires
 take-back-cause-requires c κs = search rules
@@ -27,7 +27,7 @@ returns-3 : tie.Need-returns-3
 returns-3 c m o =
     let known = sym c.before.before.before.before.unknown.ensures ∙ c.before.before.before.if1.false in
     let x = c.before.before.before.before.before in
-    rw (refusal-take-back m _ _ _ _ _ known c.before.if3.true, length-standing x.args.session x.requires.cells x.requires.within) c.take-back-cause.ensures
+    rw (refusal-take_back m _ _ _ _ _ known c.before.if3.true, length-standing x.args.session x.requires.cells x.requires.within) c.take-back-cause.ensures
 
 read-cause-requires : tie.Need-read-cause-requires
 read-cause-requires c κs = search rules
@@ -36,12 +36,12 @@ returns-4 : tie.Need-returns-4
 returns-4 c m o =
     let known = sym c.before.before.before.before.before.unknown.ensures ∙ c.before.before.before.before.if1.false in
     let x = c.before.before.before.before.before.before in
-    rw (refusal-read m _ _ _ _ _ known c.before.if4.true, length-standing x.args.session x.requires.cells x.requires.within) c.read-cause.ensures
+    rw (refusal_read m _ _ _ _ _ known c.before.if4.true, length-standing x.args.session x.requires.cells x.requires.within) c.read-cause.ensures
 
 returns-5 : tie.Need-returns-5
 returns-5 c m o =
     let known = sym c.before.before.before.before.unknown.ensures ∙ c.before.before.before.if1.false in
-    sym (refusal-search m _ _ _ _ _ known c.before.before.if2.false c.before.if3.false c.if4.false)
+    sym (refusal_search m _ _ _ _ _ known c.before.before.if2.false c.before.if3.false c.if4.false)
 
 pub line-cause-spec : {M : Type 1} → statement M
 line-cause-spec =

@@ -5,7 +5,7 @@ use native.Mathlib.Numerals.{add-one}
 use mathlib.Core.Path.{refl}
 use lib.ListN.{length-set}
 use lib.Seq.{take-suc-set}
-use Rattle.session.specs.StepLaws.{words-put}
+use Rattle.session.specs.StepLaws.{words_put}
 use Rattle.session.proofs.entries.append.Statement.{statement}
 use Rattle.session.proofs.entries.append.Tie as tie
 
@@ -30,7 +30,7 @@ returns c =
       cells = simp length-set p.0.cells;
       within = omega (arith, p.1);
       stands = rw add-one (take-suc-set x.entries x.len entry (omega (arith, p.0.cells, p.1)));
-      words = words-put entry p.0 p.1 p.2 c.fix.ensures;
+      words = words_put entry p.0 p.1 p.2 c.fix.ensures;
       under = refl;
       over = refl;
     }

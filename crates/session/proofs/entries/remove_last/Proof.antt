@@ -4,7 +4,7 @@ use Prim.Native.Nat.{◌-◌}
 use native.Mathlib.Omega.{arith}
 use mathlib.Core.Path.{refl, sym}
 use lib.Seq.{take-take}
-use Rattle.session.specs.StepLaws.{words-struck}
+use Rattle.session.specs.StepLaws.{words_struck}
 use Rattle.session.proofs.entries.remove_last.Statement.{statement}
 use Rattle.session.proofs.entries.remove_last.Tie as tie
 
@@ -28,7 +28,7 @@ returns c =
       cells = p.0.cells;
       within = omega (arith, p.0.within);
       stands = sym (take-take (x.len - 1) x.len x.entries (omega arith));
-      words = words-struck p.0 p.1 c.free.ensures;
+      words = words_struck p.0 p.1 c.free.ensures;
       under = refl;
       over = refl;
     }

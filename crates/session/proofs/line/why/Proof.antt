@@ -1,6 +1,6 @@
 -- `session::line::why` meets its contract.
 use borrow.Author.Rules.{rules}
-use Rattle.session.specs.Sound.{net-ready}
+use Rattle.session.specs.Sound.{net_ready}
 use Rattle.session.specs.StepLaws.{searched}
 use Rattle.session.proofs.line.why.Statement.{statement}
 use Rattle.session.proofs.line.why.Tie as tie
@@ -8,7 +8,7 @@ use Rattle.session.proofs.line.why.Tie as tie
 why-requires : tie.Need-why-requires
 why-requires c κs =
     let p = c.before.before.before.before.before.before.before.requires in
-    (p.0, net-ready p.1)
+    (p.0, net_ready p.1)
 
 recount-requires : tie.Need-recount-requires
 recount-requires c κs = search rules
@@ -32,8 +32,8 @@ returns c =
       e.0,
       λ s d.
           let w = d.sound.words in
-          let f = e.1 s (net-ready d) in
-          searched (rw (w.mask_is, w.values-are) at f.0) f.1 n c.tell-verdict.ensures,
+          let f = e.1 s (net_ready d) in
+          searched (rw (w.mask_is, w.values_are) at f.0) f.1 n c.tell-verdict.ensures,
     )
 
 pub why-spec : {M : Type 1} → statement M

@@ -1,7 +1,7 @@
 -- `sheet::reader::take_at` meets its contract: below the count of frames it moves on by one, else it stays.
 use mathlib.Core.Path.{sym}
 use native.Mathlib.Omega.{arith}
-use Rattle.sheet.specs.Reader.{takes_of, following-in, following-past}
+use Rattle.sheet.specs.Reader.{takes_of, following_in, following-past}
 use borrow.Author.Rules.{rules}
 use Rattle.sheet.proofs.reader.take_at.Statement.{statement}
 use Rattle.sheet.proofs.reader.take_at.Tie as tie
@@ -23,7 +23,7 @@ returns c =
     let a = c.before.before.before.before.before.args in
     let d = c.before.before.decode.ensures in
     takes_of a.bytes.now a.number _ _ c.before.before.before.of.ensures
-    (record { number_is = d.0; kind-is = d.1; next-is = sym (following-in _ _ (omega (arith, c.if1.true, c.before.frames.ensures))) })
+    (record { number_is = d.0; kind-is = d.1; next-is = sym (following_in _ _ (omega (arith, c.if1.true, c.before.frames.ensures))) })
 
 returns-2 : tie.Need-returns-2
 returns-2 c =

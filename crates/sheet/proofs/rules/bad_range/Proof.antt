@@ -1,7 +1,7 @@
 -- `sheet::rules::bad_range` meets its contract.
 use native.Mathlib.Omega.{arith}
 use borrow.Author.Tests.{eq-eqb, ne_eqb, lt-ltb, le-ltb}
-use Rattle.sheet.specs.Rules.{badRange}
+use Rattle.sheet.specs.Rules.{bad_range}
 use Rattle.form.specs.Form.{variables}
 use borrow.Author.Rules.{rules}
 use Rattle.sheet.proofs.rules.bad_range.Statement.{statement}
@@ -20,16 +20,16 @@ add-end : tie.Need-overflow-add-end
 add-end c = search rules
 
 returns : tie.Need-returns
-unfolding badRange
+unfolding bad_range
 returns c = simp (eq-eqb _ _ c.if1.true)
 
 returns-2 : tie.Need-returns-2
-unfolding badRange
+unfolding bad_range
 returns-2 c = let a = c.before.before.before.before.before.args in
     simp (ne_eqb _ _ c.before.if1.false, lt-ltb (variables a.form) a.c (omega (arith, c.before.before.before.before.bound_of.ensures, c.before.before.before.long.ensures, c.if2.true)))
 
 returns-3 : tie.Need-returns-3
-unfolding badRange
+unfolding bad_range
 returns-3 c = let a = c.before.before.before.before.before.args in
     simp (ne_eqb _ _ c.before.if1.false, le-ltb (variables a.form) a.c (omega (arith, c.before.before.before.before.bound_of.ensures, c.before.before.before.long.ensures, c.if2.false)), c.before.before.before.before.bound_of.ensures, c.before.before.before.long.ensures, c.before.before.long2.ensures)
 

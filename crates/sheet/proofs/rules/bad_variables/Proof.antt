@@ -1,5 +1,5 @@
 -- `sheet::rules::bad_variables` meets its contract, arm by arm.
-use Rattle.sheet.specs.Rules.{badVariables}
+use Rattle.sheet.specs.Rules.{bad_variables}
 use borrow.Author.Rules.{rules}
 use Rattle.sheet.proofs.rules.bad_variables.Statement.{statement}
 use Rattle.sheet.proofs.rules.bad_variables.Tie as tie
@@ -41,35 +41,35 @@ bad-input-requires-2 : tie.Need-bad-input-requires-2
 bad-input-requires-2 c κs = search rules
 
 returns : tie.Need-returns
-unfolding badVariables
+unfolding bad_variables
 returns c = simp c.enum_told.given.1
 
 returns-2 : tie.Need-returns-2
-unfolding badVariables
+unfolding bad_variables
 returns-2 c = simp (c.before.before.kind.given.1, c.bad-input.ensures)
 
 returns-3 : tie.Need-returns-3
-unfolding badVariables
+unfolding bad_variables
 returns-3 c = simp c.enum-told2.given.1
 
 returns-4 : tie.Need-returns-4
-unfolding badVariables
+unfolding bad_variables
 returns-4 c = simp c.enum-told3.given.1
 
 returns-5 : tie.Need-returns-5
-unfolding badVariables
+unfolding bad_variables
 returns-5 c = simp c.enum-told4.given.1
 
 returns-6 : tie.Need-returns-6
-unfolding badVariables
+unfolding bad_variables
 returns-6 c = simp (c.before.before.kind2.given.1, c.bad-range.ensures)
 
 returns-7 : tie.Need-returns-7
-unfolding badVariables
+unfolding bad_variables
 returns-7 c = simp (c.before.before.kind3.given.1, c.bad-range2.ensures)
 
 returns-8 : tie.Need-returns-8
-unfolding badVariables
+unfolding bad_variables
 returns-8 c = simp (c.before.before.kind4.given.1, c.bad-input2.ensures)
 
 pub bad-variables-spec : {M : Type 1} → statement M

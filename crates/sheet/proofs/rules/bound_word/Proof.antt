@@ -1,8 +1,8 @@
 -- `sheet::rules::bound_word` meets its contract, arm by arm.
 use native.Mathlib.Omega.{arith}
 use mathlib.Core.Path.{ap, sym, ◌∙◌}
-use Rattle.sheet.specs.Rules.{badVariables}
-use Rattle.sheet.specs.Check.{boundMask}
+use Rattle.sheet.specs.Rules.{bad_variables}
+use Rattle.sheet.specs.Check.{bound_mask}
 use Rattle.form.specs.Form.{few-variables}
 use Rattle.sheet.specs.RuleLaws.{range-fits}
 use borrow.Author.Rules.{rules}
@@ -28,51 +28,51 @@ enum-known-kind : tie.Need-enum-known-kind
 enum-known-kind c = search rules
 
 range-word-requires : tie.Need-range-word-requires
-unfolding badVariables boundMask
+unfolding bad_variables bound_mask
 range-word-requires c κs = let a = c.before.before.before.args in
-    omega (arith, few-variables a.form, (range-fits a.form _ _ (ap (badVariables a.form) (sym c.before.kind.given.1) ∙ c.before.before.before.requires)).2)
+    omega (arith, few-variables a.form, (range-fits a.form _ _ (ap (bad_variables a.form) (sym c.before.kind.given.1) ∙ c.before.before.before.requires)).2)
 
 enum-known-kind-2 : tie.Need-enum-known-kind-2
 enum-known-kind-2 c = search rules
 
 range-word-requires-2 : tie.Need-range-word-requires-2
-unfolding badVariables boundMask
+unfolding bad_variables bound_mask
 range-word-requires-2 c κs = let a = c.before.before.before.args in
-    omega (arith, few-variables a.form, (range-fits a.form _ _ (ap (badVariables a.form) (sym c.before.kind2.given.1) ∙ c.before.before.before.requires)).2)
+    omega (arith, few-variables a.form, (range-fits a.form _ _ (ap (bad_variables a.form) (sym c.before.kind2.given.1) ∙ c.before.before.before.requires)).2)
 
 enum-told-6 : tie.Need-enum-told-6
 enum-told-6 c = search rules
 
 returns : tie.Need-returns
-unfolding badVariables boundMask
+unfolding bad_variables bound_mask
 returns c = simp c.enum_told.given.1
 
 returns-2 : tie.Need-returns-2
-unfolding badVariables boundMask
+unfolding bad_variables bound_mask
 returns-2 c = simp c.enum-told2.given.1
 
 returns-3 : tie.Need-returns-3
-unfolding badVariables boundMask
+unfolding bad_variables bound_mask
 returns-3 c = simp c.enum-told3.given.1
 
 returns-4 : tie.Need-returns-4
-unfolding badVariables boundMask
+unfolding bad_variables bound_mask
 returns-4 c = simp c.enum-told4.given.1
 
 returns-5 : tie.Need-returns-5
-unfolding badVariables boundMask
+unfolding bad_variables bound_mask
 returns-5 c = simp c.enum-told5.given.1
 
 returns-6 : tie.Need-returns-6
-unfolding badVariables boundMask
+unfolding bad_variables bound_mask
 returns-6 c = simp (c.before.before.kind.given.1, c.range-word.ensures)
 
 returns-7 : tie.Need-returns-7
-unfolding badVariables boundMask
+unfolding bad_variables bound_mask
 returns-7 c = simp (c.before.before.kind2.given.1, c.range-word2.ensures)
 
 returns-8 : tie.Need-returns-8
-unfolding badVariables boundMask
+unfolding bad_variables bound_mask
 returns-8 c = simp c.enum-told6.given.1
 
 pub bound-word-spec : {M : Type 1} → statement M

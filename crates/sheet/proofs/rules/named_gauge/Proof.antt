@@ -1,8 +1,8 @@
 -- `sheet::rules::named_gauge` meets its contract, arm by arm.
 use mathlib.Core.Path.{ap, sym, ◌∙◌}
 use Rattle.words.specs.Logic.{tests}
-use Rattle.sheet.specs.Rules.{badVariables}
-use Rattle.sheet.specs.Check.{gaugeMask}
+use Rattle.sheet.specs.Rules.{bad_variables}
+use Rattle.sheet.specs.Check.{gauge_mask}
 use Rattle.form.specs.Form.{few-variables}
 use borrow.Author.Rules.{rules}
 use Rattle.sheet.proofs.rules.named_gauge.Statement.{statement}
@@ -33,40 +33,40 @@ enum-known-kind : tie.Need-enum-known-kind
 enum-known-kind c = search rules
 
 input-word-requires : tie.Need-input-word-requires
-unfolding badVariables
+unfolding bad_variables
 input-word-requires c κs = let a = c.before.before.before.args in
-    omega (tests, few-variables a.form, ap (badVariables a.form) (sym c.before.kind.given.1) ∙ c.before.before.before.requires)
+    omega (tests, few-variables a.form, ap (bad_variables a.form) (sym c.before.kind.given.1) ∙ c.before.before.before.requires)
 
 returns : tie.Need-returns
-unfolding gaugeMask
+unfolding gauge_mask
 returns c = simp c.enum_told.given.1
 
 returns-2 : tie.Need-returns-2
-unfolding gaugeMask
+unfolding gauge_mask
 returns-2 c = simp c.enum-told2.given.1
 
 returns-3 : tie.Need-returns-3
-unfolding gaugeMask
+unfolding gauge_mask
 returns-3 c = simp c.enum-told3.given.1
 
 returns-4 : tie.Need-returns-4
-unfolding gaugeMask
+unfolding gauge_mask
 returns-4 c = simp c.enum-told4.given.1
 
 returns-5 : tie.Need-returns-5
-unfolding gaugeMask
+unfolding gauge_mask
 returns-5 c = simp c.enum-told5.given.1
 
 returns-6 : tie.Need-returns-6
-unfolding gaugeMask
+unfolding gauge_mask
 returns-6 c = simp c.enum-told6.given.1
 
 returns-7 : tie.Need-returns-7
-unfolding gaugeMask
+unfolding gauge_mask
 returns-7 c = simp c.enum-told7.given.1
 
 returns-8 : tie.Need-returns-8
-unfolding gaugeMask
+unfolding gauge_mask
 returns-8 c = simp (c.before.before.kind.given.1, c.input-word.ensures)
 
 pub named-gauge-spec : {M : Type 1} → statement M

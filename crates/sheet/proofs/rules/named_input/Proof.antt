@@ -1,8 +1,8 @@
 -- `sheet::rules::named_input` meets its contract, arm by arm.
 use mathlib.Core.Path.{ap, sym, ◌∙◌}
 use Rattle.words.specs.Logic.{tests}
-use Rattle.sheet.specs.Rules.{badVariables}
-use Rattle.sheet.specs.Check.{inputMask}
+use Rattle.sheet.specs.Rules.{bad_variables}
+use Rattle.sheet.specs.Check.{input_mask}
 use Rattle.form.specs.Form.{few-variables}
 use borrow.Author.Rules.{rules}
 use Rattle.sheet.proofs.rules.named_input.Statement.{statement}
@@ -15,9 +15,9 @@ enum-known-kind : tie.Need-enum-known-kind
 enum-known-kind c = search rules
 
 input-word-requires : tie.Need-input-word-requires
-unfolding badVariables
+unfolding bad_variables
 input-word-requires c κs = let a = c.before.before.before.args in
-    omega (tests, few-variables a.form, ap (badVariables a.form) (sym c.before.kind.given.1) ∙ c.before.before.before.requires)
+    omega (tests, few-variables a.form, ap (bad_variables a.form) (sym c.before.kind.given.1) ∙ c.before.before.before.requires)
 
 enum-told-2 : tie.Need-enum-told-2
 enum-told-2 c = search rules
@@ -38,35 +38,35 @@ enum-told-7 : tie.Need-enum-told-7
 enum-told-7 c = search rules
 
 returns : tie.Need-returns
-unfolding inputMask
+unfolding input_mask
 returns c = simp c.enum_told.given.1
 
 returns-2 : tie.Need-returns-2
-unfolding inputMask
+unfolding input_mask
 returns-2 c = simp (c.before.before.kind.given.1, c.input-word.ensures)
 
 returns-3 : tie.Need-returns-3
-unfolding inputMask
+unfolding input_mask
 returns-3 c = simp c.enum-told2.given.1
 
 returns-4 : tie.Need-returns-4
-unfolding inputMask
+unfolding input_mask
 returns-4 c = simp c.enum-told3.given.1
 
 returns-5 : tie.Need-returns-5
-unfolding inputMask
+unfolding input_mask
 returns-5 c = simp c.enum-told4.given.1
 
 returns-6 : tie.Need-returns-6
-unfolding inputMask
+unfolding input_mask
 returns-6 c = simp c.enum-told5.given.1
 
 returns-7 : tie.Need-returns-7
-unfolding inputMask
+unfolding input_mask
 returns-7 c = simp c.enum-told6.given.1
 
 returns-8 : tie.Need-returns-8
-unfolding inputMask
+unfolding input_mask
 returns-8 c = simp c.enum-told7.given.1
 
 pub named-input-spec : {M : Type 1} → statement M

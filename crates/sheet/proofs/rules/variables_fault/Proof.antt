@@ -1,6 +1,6 @@
 -- `sheet::rules::variables_fault` meets its contract: each test in its order.
 use mathlib.Core.Path.{sym, ◌∙◌}
-use Rattle.sheet.specs.Check.{variablesFault}
+use Rattle.sheet.specs.Check.{variables_fault}
 use borrow.Author.Rules.{rules}
 use Rattle.sheet.proofs.rules.variables_fault.Statement.{statement}
 use Rattle.sheet.proofs.rules.variables_fault.Tie as tie
@@ -9,7 +9,7 @@ bad-variables-requires : tie.Need-bad-variables-requires
 bad-variables-requires c κs = search rules
 
 returns : tie.Need-returns
-unfolding variablesFault
+unfolding variables_fault
 returns c = simp (sym c.before.bad-variables.ensures ∙ c.if1.true)
 
 named-both-requires : tie.Need-named-both-requires
@@ -22,7 +22,7 @@ binds-again-requires : tie.Need-binds-again-requires
 binds-again-requires c κs = sym c.before.before.before.bad-variables.ensures ∙ c.before.before.if1.false
 
 returns-2 : tie.Need-returns-2
-unfolding variablesFault
+unfolding variables_fault
 returns-2 c =
     simp (
       sym c.before.before.before.before.before.bad-variables.ensures ∙ c.before.before.before.before.if1.false,
@@ -33,7 +33,7 @@ returns-2 c =
     )
 
 returns-3 : tie.Need-returns-3
-unfolding variablesFault
+unfolding variables_fault
 returns-3 c =
     simp (
       sym c.before.before.before.before.before.before.bad-variables.ensures ∙ c.before.before.before.before.before.if1.false,
@@ -45,7 +45,7 @@ returns-3 c =
     )
 
 returns-4 : tie.Need-returns-4
-unfolding variablesFault
+unfolding variables_fault
 returns-4 c =
     simp (
       sym c.before.before.before.before.before.before.before.bad-variables.ensures ∙ c.before.before.before.before.before.before.if1.false,
@@ -58,7 +58,7 @@ returns-4 c =
     )
 
 returns-5 : tie.Need-returns-5
-unfolding variablesFault
+unfolding variables_fault
 returns-5 c =
     simp (
       sym c.before.before.before.before.before.before.before.bad-variables.ensures ∙ c.before.before.before.before.before.before.if1.false,

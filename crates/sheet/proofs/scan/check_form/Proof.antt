@@ -1,7 +1,7 @@
 -- `sheet::scan::check_form` meets its contract: the size first, then the frames.
-use Rattle.sheet.specs.Fields.{sheetOf}
-use Rattle.sheet.specs.Check.{same-checks}
-use Rattle.sheet.specs.Pass.{size_none, size-checks, frames-check}
+use Rattle.sheet.specs.Fields.{sheet_of}
+use Rattle.sheet.specs.Check.{same_checks}
+use Rattle.sheet.specs.Pass.{size_none, size_checks, frames_check}
 use borrow.Author.Rules.{rules}
 use Rattle.sheet.proofs.scan.check_form.Statement.{statement}
 use Rattle.sheet.proofs.scan.check_form.Tie as tie
@@ -15,19 +15,19 @@ refused-requires c κs = search rules
 returns : tie.Need-returns
 returns c =
     let a = c.before.before.before.before.args in
-    same-checks _ _ _ _ _ _ _ _ _ _ c.refused.ensures
-    (size-checks (sheetOf a.form a.sheet.now) _ c.before.before.size-fault.ensures c.before.if1.true)
+    same_checks _ _ _ _ _ _ _ _ _ _ c.refused.ensures
+    (size_checks (sheet_of a.form a.sheet.now) _ c.before.before.size-fault.ensures c.before.if1.true)
 
 check-frames-requires : tie.Need-check-frames-requires
 check-frames-requires c κs =
     let a = c.before.before.before.args in
-    size_none (sheetOf a.form a.sheet.now) _ c.before.size-fault.ensures c.if1.false
+    size_none (sheet_of a.form a.sheet.now) _ c.before.size-fault.ensures c.if1.false
 
 returns-2 : tie.Need-returns-2
 returns-2 c =
     let a = c.before.before.before.before.args in
-    let s = sheetOf a.form a.sheet.now in
-    frames-check s (size_none s _ c.before.before.size-fault.ensures c.before.if1.false) _ _ _ _ c.check-frames.ensures
+    let s = sheet_of a.form a.sheet.now in
+    frames_check s (size_none s _ c.before.before.size-fault.ensures c.before.if1.false) _ _ _ _ c.check-frames.ensures
 
 pub check-form-spec : {M : Type 1} → statement M
 check-form-spec =

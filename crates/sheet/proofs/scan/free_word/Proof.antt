@@ -2,7 +2,7 @@
 use lib.ListN.{length}
 use mathlib.Core.Path.{subst}
 use Rattle.sheet.specs.Frames.{Fit}
-use Rattle.sheet.specs.Check.{freeWord}
+use Rattle.sheet.specs.Check.{free_word}
 use borrow.Author.Rules.{rules}
 use Rattle.sheet.proofs.scan.free_word.Statement.{statement}
 use Rattle.sheet.proofs.scan.free_word.Tie as tie
@@ -71,35 +71,35 @@ input-word-requires-2 : tie.Need-input-word-requires-2
 input-word-requires-2 c κs = subst (Fit 64 (length c.before.before.before.before.args.free.now)) c.before.kind7.given.1 c.before.before.before.before.requires
 
 returns : tie.Need-returns
-unfolding freeWord
+unfolding free_word
 returns c = simp c.enum_told.given.1
 
 returns-2 : tie.Need-returns-2
-unfolding freeWord
+unfolding free_word
 returns-2 c = simp (c.before.before.kind.given.1, c.input-word.ensures)
 
 returns-3 : tie.Need-returns-3
-unfolding freeWord
+unfolding free_word
 returns-3 c = simp (c.before.before.kind2.given.1, c.word_at.ensures)
 
 returns-4 : tie.Need-returns-4
-unfolding freeWord
+unfolding free_word
 returns-4 c = simp (c.before.before.before.kind3.given.1, c.before.word-at2.ensures, c.word-at3.ensures)
 
 returns-5 : tie.Need-returns-5
-unfolding freeWord
+unfolding free_word
 returns-5 c = simp (c.before.before.before.kind4.given.1, c.before.word-at4.ensures, c.word-at5.ensures)
 
 returns-6 : tie.Need-returns-6
-unfolding freeWord
+unfolding free_word
 returns-6 c = simp (c.before.before.before.before.kind5.given.1, c.before.before.word-at6.ensures, c.before.range-word.ensures, c.without.ensures)
 
 returns-7 : tie.Need-returns-7
-unfolding freeWord
+unfolding free_word
 returns-7 c = simp (c.before.before.before.before.kind6.given.1, c.before.before.word-at7.ensures, c.before.range-word2.ensures, c.without2.ensures)
 
 returns-8 : tie.Need-returns-8
-unfolding freeWord
+unfolding free_word
 returns-8 c = simp (c.before.before.kind7.given.1, c.input-word2.ensures)
 
 pub free-word-spec : {M : Type 1} → statement M

@@ -51,13 +51,13 @@ use denote.Exit.{yes}
 use borrow.Rule.Slice.Lend.{sl_relent_backˡ}
 use Rattle.words.specs.Logic.{by_bool}
 use Rattle.form.specs.Form.{form_of}
-use Rattle.sheet.specs.Fields.{Sheet, sheetOf, frames, kind}
-use Rattle.sheet.specs.Reader.{read_by, following-in}
+use Rattle.sheet.specs.Fields.{Sheet, sheet_of, frames, kind}
+use Rattle.sheet.specs.Reader.{read_by, following_in}
 use Rattle.sheet.specs.Pass.{Passed, Scanning, Scanned}
 use Rattle.sheet.specs.declared.reader.Reader.{Reader}
 use Rattle.sheet.specs.declared.scan.Scan.{Scan}
 use Rattle.sheet.specs.declared.Frame.{Frame}
-use Rattle.sheet.proofs.ReaderCalls.{New, Next, Says, Cell, Own, type_at, value, start, calls-new, calls-next}
+use Rattle.sheet.proofs.ReaderCalls.{New, Next, Says, Cell, Own, type_at, value, start, calls_new, calls_next}
 use Rattle.sheet.proofs.Relent.{lent, Table, Bare, Way, bare, valued, lends}
 use Rattle.sheet.specs.contracts.scan.Scan as S
 use Rattle.sheet.proofs.scan.Scan.TheLaws as S'
@@ -97,7 +97,7 @@ rest = seq (assign (place 0 []) (rv_opd (copy (place 3 [])))) return
 
 -- the sheet of these bytes; m tells whether it is wide
 abbrev sheet : Bool → Bor (List ℕ) → Sheet
-sheet m s = sheetOf (form_of m) s.now
+sheet m s = sheet_of (form_of m) s.now
 
 abbrev Goes : Bool → Bor (List ℕ) → List ℕ → ℕ → Scan → Type 0
 Goes m s l k z = Scanning (sheet m s) l k z.more z.seen z.fault z.place
@@ -136,7 +136,7 @@ module _ (s : Bor (List ℕ)) (m : Bool) (n : ℕ) where
     at_next : r.at ≡ t.reader.at + 1
     at_next =
         ap (λ (h : Reader). h.at) e.2
-        ∙ following-in (read_by t.reader) t.reader.at (subst (λ (h : Sheet). t.reader.at < frames h) (sym reads) (t.scanning.going more).1)
+        ∙ following_in (read_by t.reader) t.reader.at (subst (λ (h : Sheet). t.reader.at < frames h) (sym reads) (t.scanning.going more).1)
 
     abbrev onward : (l : List ℕ) (z : Scan) → Goes t.scan.wide s l (d.number + 1) z × (z.wide ≡ t.scan.wide) → length l ≡ length t.words → Is S.the_row z (S'.lowered z ∷ []) → State s m n
     onward l z c same is = record {
@@ -239,7 +239,7 @@ module _ {M : Type 1} {𝓤 : Ura M} (𝓛 : Logic 𝓤) (at_mem : Memory → SP
         -- [_10; …; down to _0; …; the tokens; what the parameters own]
         move ! (23 ∷ []) $ fsplit ! $ move ! (1 ∷ []) $ fsplit ! $ use1 𝓛 (‵ (Words n.now)) (bare 𝓛 u64 n ρ n.ghost_name n.now) $ move ! (1 ∷ []) $ drop ! $ move ! (24 ∷ []) $ split ! $ move ! (1 ∷ []) $ split ! $ move ! (1 ∷ []) $ drop ! $ move ! (1 ∷ 3 ∷ []) $
         -- [κ's token; the sheet; ρ's token; the words; _10; …; down to _0; …]
-        calls-new 𝓛 κ at_mem run q s 0 (lit< tt) z₀.wide (fm_of 𝓤 H 𝓛.laws 𝓣) known-new (λ P. and_then ! (load ! (from ! (stop !)) (look ! 22 refl)) (and_then ! (lit ! tt) (and_then ! (load ! (from ! (fld ! refl (stop !))) (look_in ! 18 (sub ! 0 refl (whole !)))) (no_more !)))) (λ typed.
+        calls_new 𝓛 κ at_mem run q s 0 (lit< tt) z₀.wide (fm_of 𝓤 H 𝓛.laws 𝓣) known-new (λ P. and_then ! (load ! (from ! (stop !)) (look ! 22 refl)) (and_then ! (lit ! tt) (and_then ! (load ! (from ! (fld ! refl (stop !))) (look_in ! 18 (sub ! 0 refl (whole !)))) (no_more !)))) (λ typed.
         land ! (from ! (stop !)) (init ! 13 refl typed) $ assigns ! (of_opd ! (load ! (from ! (stop !)) (look ! 13 refl))) (from ! (stop !)) (init ! 17 refl typed) $ forget ! 13 refl $
         -- [what the reader owns; κ's token; the sheet; ρ's token; the words; _10; …; down to _0; …]
         keep ! (17 ∷ 0 ∷ 1 ∷ 19 ∷ 4 ∷ 3 ∷ 2 ∷ 23 ∷ 21 ∷ 25 ∷ 15 ∷ 13 ∷ 11 ∷ 9 ∷ 7 ∷ 5 ∷ 26 ∷ 24 ∷ 22 ∷ 20 ∷ 18 ∷ 16 ∷ 14 ∷ 12 ∷ 10 ∷ 8 ∷ 6 ∷ []) $
@@ -248,7 +248,7 @@ module _ {M : Type 1} {𝓤 : Ura M} (𝓛 : Logic 𝓤) (at_mem : Memory → SP
         by_bool t.scan.more
         (λ on. rewrite ! 12 (λ (c : Bool). ‵ (fat full_share ty_bool m₇ 0 (vbool c))) on refl $ stays ! (load ! (from ! (stop !)) (look ! 12 refl)) $
         assigns ! (addr ! (from ! (stop !))) (from ! (stop !)) (init ! 13 refl (tt, tt)) $
-        calls-next 𝓛 κ at_mem run q t.reader m₄ (fm_of 𝓤 H 𝓛.laws 𝓣) known_next (λ P i j. and_then ! (load ! (from ! (stop !)) (look ! 13 refl)) (no_more !)) (λ d r e typed'.
+        calls_next 𝓛 κ at_mem run q t.reader m₄ (fm_of 𝓤 H 𝓛.laws 𝓣) known_next (λ P i j. and_then ! (load ! (from ! (stop !)) (look ! 13 refl)) (no_more !)) (λ d r e typed'.
         -- [the reader; what it owns; κ's token; the frame; the pass; the words; ρ's token; the sheet; _1; …]
         land ! (from ! (stop !)) (init ! 11 refl typed') $ assigns ! (addr ! (from ! (fld ! refl (hop ! (look_in ! 9 (sub ! 0 refl (whole !))) (stop !))))) (from ! (stop !)) (init ! 15 refl (tt, tt)) $
         assigns ! (agg ! (and_then ! (load ! (from ! (stop !)) (look ! 15 refl)) (and_then ! (load ! (from ! (fld ! refl (stop !))) (look_in ! 9 (sub ! 1 refl (whole !)))) (no_more !)))) (from ! (stop !)) (init ! 16 refl (tt, (tt, (record { fits = l-is.0.1.0 }, tt)))) $

@@ -2,7 +2,7 @@
 use Rattle.form.specs.declared.Form.TheVariants.{Narrow, Wide}
 use mathlib.Core.Path.{sym, ◌∙◌}
 use native.Mathlib.Omega.{arith}
-use Rattle.solver.specs.QuestionLaws.{asked-words}
+use Rattle.solver.specs.QuestionLaws.{asked_words}
 use borrow.Author.Rules.{rules}
 use Rattle.solver.proofs.question.solve.Statement.{statement}
 use Rattle.solver.proofs.question.solve.Tie as tie
@@ -14,13 +14,13 @@ enum_told : tie.Need-enum-told
 enum_told c = search rules
 
 solve-narrow-requires : tie.Need-solve-narrow-requires
-solve-narrow-requires c κs = (c.before.before.before.before.before.before.before.before.before.before.requires, omega (arith, asked-words c.before.before.before.before.before.before.before.before.before.before.requires.1 Narrow (sym c.before.before.before.before.before.form.ensures ∙ c.before.before.before.enum_told.given.1)))
+solve-narrow-requires c κs = (c.before.before.before.before.before.before.before.before.before.before.requires, omega (arith, asked_words c.before.before.before.before.before.before.before.before.before.before.requires.1 Narrow (sym c.before.before.before.before.before.form.ensures ∙ c.before.before.before.enum_told.given.1)))
 
 enum-told-2 : tie.Need-enum-told-2
 enum-told-2 c = search rules
 
 solve-wide-requires : tie.Need-solve-wide-requires
-solve-wide-requires c κs = (c.before.before.before.before.before.before.before.before.before.before.requires, omega (arith, asked-words c.before.before.before.before.before.before.before.before.before.before.requires.1 Wide (sym c.before.before.before.before.before.form.ensures ∙ c.before.before.before.enum-told2.given.1)))
+solve-wide-requires c κs = (c.before.before.before.before.before.before.before.before.before.before.requires, omega (arith, asked_words c.before.before.before.before.before.before.before.before.before.before.requires.1 Wide (sym c.before.before.before.before.before.form.ensures ∙ c.before.before.before.enum-told2.given.1)))
 
 same_length : tie.Need-same-length
 same_length c = search rules

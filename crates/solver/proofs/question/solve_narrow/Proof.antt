@@ -1,6 +1,6 @@
 -- `solver::question::solve_narrow` meets its contract: the scratch is that of a narrow sheet. Assumes nothing.
 use mathlib.Core.Path.{refl}
-use Rattle.solver.specs.QuestionLaws.{blank-scratch}
+use Rattle.solver.specs.QuestionLaws.{blank_scratch}
 use borrow.Author.Rules.{rules}
 use Rattle.solver.proofs.question.solve_narrow.Statement.{statement}
 use Rattle.solver.proofs.question.solve_narrow.Tie as tie
@@ -12,7 +12,7 @@ slice-aggregate-solve-in-2 : tie.Need-slice-aggregate-solve-in-2
 slice-aggregate-solve-in-2 c = search rules
 
 solve-in-requires : tie.Need-solve-in-requires
-solve-in-requires c κs = (c.before.before.before.before.before.before.before.before.requires.0, blank-scratch 406 609 c.before.before.before.before.before.before.before.before.requires.1 refl refl refl)
+solve-in-requires c κs = (c.before.before.before.before.before.before.before.before.requires.0, blank_scratch 406 609 c.before.before.before.before.before.before.before.before.requires.1 refl refl refl)
 
 same_length : tie.Need-same-length
 same_length c = search rules

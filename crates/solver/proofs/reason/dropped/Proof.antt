@@ -3,9 +3,9 @@ use mathlib.Core.Path.{refl, sym, ◌∙◌, ap}
 use lib.ListN.{length}
 use borrow.Author.Tests.{not-true}
 use borrow.Author.Rules.{rules}
-use Rattle.records.specs.Both.{tables-same}
-use Rattle.solver.specs.Ask.{ready-grown}
-use Rattle.solver.specs.Why.{turned-absent, turned-idle, less-asking, turned-dropped, turned-kept}
+use Rattle.records.specs.Both.{tables_same}
+use Rattle.solver.specs.Ask.{ready_grown}
+use Rattle.solver.specs.Why.{turned_absent, turned_idle, less_asking, turned_dropped, turned-kept}
 use Rattle.solver.proofs.reason.dropped.Statement.{statement}
 use Rattle.solver.proofs.reason.dropped.Tie as tie
 
@@ -16,7 +16,7 @@ returns : tie.Need-returns
 returns c =
     let has° = c.before.has in
     let if1° = c.if1 in
-    (refl, λ s R. (turned-absent (sym has°.ensures ∙ not-true _ if1°.true), tables-same R.tables))
+    (refl, λ s R. (turned_absent (sym has°.ensures ∙ not-true _ if1°.true), tables_same R.tables))
 
 free-requires : tie.Need-free-requires
 free-requires c κs = search rules
@@ -30,7 +30,7 @@ returns-2 c =
     let free° = c.before.before.free in
     let has2° = c.before.has2 in
     let if2° = c.if2 in
-    (refl, λ s R. (turned-idle R pre°.1.1 pre°.0.0 pre°.0.1 pre°.0.2 free°.ensures (sym has2°.ensures ∙ not-true _ if2°.true), tables-same R.tables))
+    (refl, λ s R. (turned_idle R pre°.1.1 pre°.0.0 pre°.0.1 pre°.0.2 free°.ensures (sym has2°.ensures ∙ not-true _ if2°.true), tables_same R.tables))
 
 sub-t15 : tie.Need-overflow-sub-t15
 sub-t15 c = search rules
@@ -47,7 +47,7 @@ solve-requires c κs =
     let free° = c.before.before.before.before.before.before.before.before.before.free in
     let reach° = c.before.before.before.before.reach in
     let without° = c.before.before.before.without in
-    (pre°.1.0.0, less-asking pre°.1.0.1 pre°.1.1 pre°.0.0 pre°.0.1 pre°.0.2 free°.ensures reach°.ensures without°.ensures)
+    (pre°.1.0.0, less_asking pre°.1.0.1 pre°.1.1 pre°.0.0 pre°.0.1 pre°.0.2 free°.ensures reach°.ensures without°.ensures)
 
 same_length : tie.Need-same-length
 same_length c =
@@ -72,7 +72,7 @@ returns-3 c =
     let reach° = c.before.before.before.before.before.before.before.before.before.before.before.before.before.reach in
     let without° = c.before.before.before.before.before.before.before.before.before.before.before.before.without in
     let if3° = c.if3 in
-    (solve°.ensures.1.1, λ s R. (turned-kept R pre°.1.1 pre°.0.0 pre°.0.1 pre°.0.2 free°.ensures reach°.ensures without°.ensures (rw if3°.true at solve°.ensures.0), ready-grown R solve°.ensures.1.0))
+    (solve°.ensures.1.1, λ s R. (turned-kept R pre°.1.1 pre°.0.0 pre°.0.1 pre°.0.2 free°.ensures reach°.ensures without°.ensures (rw if3°.true at solve°.ensures.0), ready_grown R solve°.ensures.1.0))
 
 same-length-4 : tie.Need-same-length-4
 same-length-4 c =
@@ -97,7 +97,7 @@ returns-4 c =
     let reach° = c.before.before.before.before.before.before.before.before.before.before.before.before.before.reach in
     let without° = c.before.before.before.before.before.before.before.before.before.before.before.before.without in
     let if3° = c.if3 in
-    (solve°.ensures.1.1, λ s R. (turned-dropped R pre°.1.1 pre°.0.0 pre°.0.1 pre°.0.2 free°.ensures reach°.ensures without°.ensures (rw if3°.false at solve°.ensures.0), ready-grown R solve°.ensures.1.0))
+    (solve°.ensures.1.1, λ s R. (turned_dropped R pre°.1.1 pre°.0.0 pre°.0.1 pre°.0.2 free°.ensures reach°.ensures without°.ensures (rw if3°.false at solve°.ensures.0), ready_grown R solve°.ensures.1.0))
 
 pub dropped-spec : {M : Type 1} → statement M
 dropped-spec =

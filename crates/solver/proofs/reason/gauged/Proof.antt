@@ -3,7 +3,7 @@ use native.Mathlib.Omega.{arith}
 use mathlib.Core.Path.{◌∙◌}
 use borrow.Author.Rules.{rules}
 use Rattle.records.specs.Both.{tables_then}
-use Rattle.solver.specs.WhyLaws.{ready-entered, gauged-aimed, held-fails, held-assured, reason-no, reason-yes}
+use Rattle.solver.specs.WhyLaws.{ready_entered, gauged_aimed, held-fails, held-assured, reason-no, reason-yes}
 use Rattle.solver.proofs.reason.gauged.Statement.{statement}
 use Rattle.solver.proofs.reason.gauged.Tie as tie
 
@@ -33,11 +33,11 @@ reduced-requires c κs =
     let without° = c.before.before.without in
     let s = pre°.0.0 in
     let R = pre°.0.1 in
-    let a = unread°.ensures s R.net-of in
-    let b = ours°.ensures s R.net-of in
+    let a = unread°.ensures s R.net_of in
+    let b = ours°.ensures s R.net_of in
     let K = failing°.ensures.1 s R in (
-      (omega arith, omega arith, rw failing°.ensures.0 (gauged-aimed R a b of°.ensures)),
-      (s, rw failing°.ensures.0 (ready-entered R of°.ensures K.1), held-fails R a b of°.ensures (rw if1°.true at K.0) without°.ensures),
+      (omega arith, omega arith, rw failing°.ensures.0 (gauged_aimed R a b of°.ensures)),
+      (s, rw failing°.ensures.0 (ready_entered R of°.ensures K.1), held-fails R a b of°.ensures (rw if1°.true at K.0) without°.ensures),
     )
 
 same_length : tie.Need-same-length
@@ -62,11 +62,11 @@ returns c =
     let n = failing°.ensures.0 in (
       reduced°.ensures.0 ∙ n,
       λ s R.
-          let a = unread°.ensures s R.net-of in
-          let b = ours°.ensures s R.net-of in
+          let a = unread°.ensures s R.net_of in
+          let b = ours°.ensures s R.net_of in
           let K = failing°.ensures.1 s R in
           let H = held-fails R a b of°.ensures (rw if1°.true at K.0) without°.ensures in
-          let q = reduced°.ensures.1 s (rw n (ready-entered R of°.ensures K.1)) H in
+          let q = reduced°.ensures.1 s (rw n (ready_entered R of°.ensures K.1)) H in
           (reason-no R a b of°.ensures pre°.1 H q.0, tables_then K.1 q.1),
     )
 
@@ -80,11 +80,11 @@ reduced-requires-2 c κs =
     let if1° = c.before.before.before.if1 in
     let s = pre°.0.0 in
     let R = pre°.0.1 in
-    let a = unread°.ensures s R.net-of in
-    let b = ours°.ensures s R.net-of in
+    let a = unread°.ensures s R.net_of in
+    let b = ours°.ensures s R.net_of in
     let K = failing°.ensures.1 s R in (
-      (omega arith, omega arith, rw failing°.ensures.0 (gauged-aimed R a b of°.ensures)),
-      (s, rw failing°.ensures.0 (ready-entered R of°.ensures K.1), held-assured R a b of°.ensures (rw if1°.false at K.0)),
+      (omega arith, omega arith, rw failing°.ensures.0 (gauged_aimed R a b of°.ensures)),
+      (s, rw failing°.ensures.0 (ready_entered R of°.ensures K.1), held-assured R a b of°.ensures (rw if1°.false at K.0)),
     )
 
 same-length-4 : tie.Need-same-length-4
@@ -108,11 +108,11 @@ returns-2 c =
     let n = failing°.ensures.0 in (
       reduced2°.ensures.0 ∙ n,
       λ s R.
-          let a = unread°.ensures s R.net-of in
-          let b = ours°.ensures s R.net-of in
+          let a = unread°.ensures s R.net_of in
+          let b = ours°.ensures s R.net_of in
           let K = failing°.ensures.1 s R in
           let H = held-assured R a b of°.ensures (rw if1°.false at K.0) in
-          let q = reduced2°.ensures.1 s (rw n (ready-entered R of°.ensures K.1)) H in
+          let q = reduced2°.ensures.1 s (rw n (ready_entered R of°.ensures K.1)) H in
           (reason-yes R a b of°.ensures pre°.1 H q.0, tables_then K.1 q.1),
     )
 

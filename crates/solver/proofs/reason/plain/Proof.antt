@@ -3,10 +3,10 @@ use native.Mathlib.Omega.{arith}
 use mathlib.Core.Path.{◌∙◌}
 use borrow.Author.Rules.{rules}
 use Rattle.records.specs.Both.{tables_then}
-use Rattle.solver.specs.Ask.{ready-grown}
-use Rattle.solver.specs.Aim.{aimed-none}
-use Rattle.solver.specs.Aim.{plain-asking}
-use Rattle.solver.specs.WhyLaws.{ready-entered, ready-yes, held-yes, why-yes, held-no, why-no}
+use Rattle.solver.specs.Ask.{ready_grown}
+use Rattle.solver.specs.Aim.{aimed_none}
+use Rattle.solver.specs.Aim.{plain_asking}
+use Rattle.solver.specs.WhyLaws.{ready_entered, ready_yes, held-yes, why-yes, held-no, why-no}
 use Rattle.solver.proofs.reason.plain.Statement.{statement}
 use Rattle.solver.proofs.reason.plain.Tie as tie
 
@@ -25,7 +25,7 @@ solve-requires c κs =
     let free° = c.before.before.before.before.before.free in
     let without° = c.before.before.before.without in
     let of° = c.before.before.before.before.of in
-    (pre°.0, plain-asking pre°.1 free°.ensures without°.ensures of°.ensures)
+    (pre°.0, plain_asking pre°.1 free°.ensures without°.ensures of°.ensures)
 
 of-requires-2 : tie.Need-of-requires-2
 of-requires-2 c κs = search rules
@@ -40,8 +40,8 @@ reduced-requires c κs =
     let of° = c.before.before.before.before.before.before.before.before.before.before.before.before.before.before.before.before.before.of in
     let of2° = c.before.before.of2 in
     let h = rw if1°.true at solve°.ensures.0 in
-    let G = ready-grown pre°.1 solve°.ensures.1.0 in
-    ((omega arith, omega arith, aimed-none _ _), (pre°.0, rw solve°.ensures.1.1 (ready-yes pre°.1 free°.ensures without°.ensures of°.ensures h of2°.ensures G), held-yes pre°.1 free°.ensures without°.ensures of°.ensures h of2°.ensures))
+    let G = ready_grown pre°.1 solve°.ensures.1.0 in
+    ((omega arith, omega arith, aimed_none _ _), (pre°.0, rw solve°.ensures.1.1 (ready_yes pre°.1 free°.ensures without°.ensures of°.ensures h of2°.ensures G), held-yes pre°.1 free°.ensures without°.ensures of°.ensures h of2°.ensures))
 
 same_length : tie.Need-same-length
 same_length c = search rules
@@ -64,8 +64,8 @@ returns c =
     let h = rw if1°.true at solve°.ensures.0 in (
       reduced°.ensures.0 ∙ solve°.ensures.1.1,
       λ s R.
-          let G = ready-grown R solve°.ensures.1.0 in
-          let q = reduced°.ensures.1 s (rw solve°.ensures.1.1 (ready-yes R free°.ensures without°.ensures of°.ensures h of2°.ensures G)) (held-yes R free°.ensures without°.ensures of°.ensures h of2°.ensures) in
+          let G = ready_grown R solve°.ensures.1.0 in
+          let q = reduced°.ensures.1 s (rw solve°.ensures.1.1 (ready_yes R free°.ensures without°.ensures of°.ensures h of2°.ensures G)) (held-yes R free°.ensures without°.ensures of°.ensures h of2°.ensures) in
           (why-yes R free°.ensures without°.ensures of°.ensures h of2°.ensures q.0, tables_then G q.1),
     )
 
@@ -78,8 +78,8 @@ reduced-requires-2 c κs =
     let free° = c.before.before.before.before.before.before.before.before.before.before.before.before.before.before.before.before.before.free in
     let without° = c.before.before.before.before.before.before.before.before.before.before.before.before.before.before.before.without in
     let h = rw if1°.false at solve°.ensures.0 in
-    let G = ready-grown pre°.1 solve°.ensures.1.0 in
-    ((omega arith, omega arith, aimed-none _ _), (pre°.0, rw solve°.ensures.1.1 (ready-entered pre°.1 of°.ensures G), held-no pre°.1 free°.ensures without°.ensures of°.ensures h))
+    let G = ready_grown pre°.1 solve°.ensures.1.0 in
+    ((omega arith, omega arith, aimed_none _ _), (pre°.0, rw solve°.ensures.1.1 (ready_entered pre°.1 of°.ensures G), held-no pre°.1 free°.ensures without°.ensures of°.ensures h))
 
 same-length-4 : tie.Need-same-length-4
 same-length-4 c = search rules
@@ -101,8 +101,8 @@ returns-2 c =
     let h = rw if1°.false at solve°.ensures.0 in (
       reduced2°.ensures.0 ∙ solve°.ensures.1.1,
       λ s R.
-          let G = ready-grown R solve°.ensures.1.0 in
-          let q = reduced2°.ensures.1 s (rw solve°.ensures.1.1 (ready-entered R of°.ensures G)) (held-no R free°.ensures without°.ensures of°.ensures h) in
+          let G = ready_grown R solve°.ensures.1.0 in
+          let q = reduced2°.ensures.1 s (rw solve°.ensures.1.1 (ready_entered R of°.ensures G)) (held-no R free°.ensures without°.ensures of°.ensures h) in
           (why-no R free°.ensures without°.ensures of°.ensures h q.0, tables_then G q.1),
     )
 

@@ -3,8 +3,8 @@ use native.Mathlib.Omega.{arith}
 use mathlib.Core.Path.{ap}
 use lib.ListN.{length}
 use borrow.Author.Rules.{rules}
-use Rattle.solver.specs.Aim.{aimed-less}
-use Rattle.solver.specs.Why.{Turning, turning-start, turning-next, turning-end}
+use Rattle.solver.specs.Aim.{aimed_less}
+use Rattle.solver.specs.Why.{Turning, turning_start, turning_next, turning-end}
 use Rattle.solver.proofs.reason.reduced.Statement.{statement}
 use Rattle.solver.proofs.reason.reduced.Tie as tie
 
@@ -20,7 +20,7 @@ variables-of-requires c κs = search rules
 loop-holds : tie.Need-loop-init invariant-loop decreases-loop
 loop-holds c =
     let variables-of° = c.variables-of in
-    turning-start variables-of°.ensures
+    turning_start variables-of°.ensures
 
 sub-x : tie.Need-overflow-sub-x invariant-loop decreases-loop
 sub-x c = search rules
@@ -30,7 +30,7 @@ dropped-requires c κs =
     let loop° = c.before.before.before.before.before.before.loop in
     let pre° = c.before.before.before.before.before.before.before.before.before.before.before.before.requires in
     let J = loop°.invariant.each pre°.1.0 pre°.1.1 pre°.1.2 in
-    ((pre°.0.0, pre°.0.1, omega (arith, loop°.invariant.low)), ((pre°.1.0, rw loop°.invariant.same J.ready), rw loop°.invariant.same (aimed-less pre°.0.2 J.less)))
+    ((pre°.0.0, pre°.0.1, omega (arith, loop°.invariant.low)), ((pre°.1.0, rw loop°.invariant.same J.ready), rw loop°.invariant.same (aimed_less pre°.0.2 J.less)))
 
 loop-less : tie.Need-loop-smaller invariant-loop decreases-loop
 loop-less c = search rules
@@ -40,7 +40,7 @@ loop-again c =
     let loop° = c.before.before.before.before.before.before.before.before.before.before.before.before.before.loop in
     let loop-test° = c.before.before.before.before.before.before.before.before.before.before.before.before.loop-test in
     let dropped° = c.before.before.before.before.before.before.dropped in
-    turning-next loop°.invariant loop-test°.true dropped°.ensures.0 dropped°.ensures.1
+    turning_next loop°.invariant loop-test°.true dropped°.ensures.0 dropped°.ensures.1
 
 same_length : tie.Need-same-length invariant-loop decreases-loop
 same_length c =

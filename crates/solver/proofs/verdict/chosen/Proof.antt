@@ -1,8 +1,8 @@
 -- `solver::verdict::chosen` meets its contract: the search of the last frame over the free variables that are not entered. Assumes nothing.
-use Rattle.solver.specs.Aim.{plain-asking}
-use Rattle.solver.specs.Ask.{ready-grown, answered-yes, answered-no}
+use Rattle.solver.specs.Aim.{plain_asking}
+use Rattle.solver.specs.Ask.{ready_grown, answered_yes, answered_no}
 use Rattle.net.specs.Sheet.{net-form}
-use Rattle.search.specs.SearchLaws.{tables-fit}
+use Rattle.search.specs.SearchLaws.{tables_fit}
 use Rattle.proxies.specs.KeptLaws.{low_fits}
 use native.Mathlib.Omega.{arith}
 use mathlib.Core.Path.{◌∙◌}
@@ -29,10 +29,10 @@ of-requires : tie.Need-of-requires
 of-requires c κs = search rules
 
 solve-requires : tie.Need-solve-requires
-solve-requires c κs = (c.before.before.before.before.before.before.before.before.before.before.before.before.before.before.requires.0, plain-asking c.before.before.before.before.before.before.before.before.before.before.before.before.before.before.requires.1 c.before.before.before.before.before.before.before.free.ensures c.before.before.before.without.ensures c.before.before.of.ensures)
+solve-requires c κs = (c.before.before.before.before.before.before.before.before.before.before.before.before.before.before.requires.0, plain_asking c.before.before.before.before.before.before.before.before.before.before.before.before.before.before.requires.1 c.before.before.before.before.before.before.before.free.ensures c.before.before.before.without.ensures c.before.before.of.ensures)
 
 cast-ensure : tie.Need-overflow-cast-ensure
-cast-ensure c = omega (arith, c.before.before.before.before.before.before.before.before.before.before.before.before.before.before.before.frames.ensures, c.before.before.before.before.before.before.before.before.before.before.before.before.before.before.before.before.before.before.before.before.before.before.before.before.requires.1.net-of.ground.room, c.before.before.before.before.before.before.before.before.before.before.before.before.before.before.before.before.before.before.before.before.before.before.before.before.requires.1.net-of.ground.few)
+cast-ensure c = omega (arith, c.before.before.before.before.before.before.before.before.before.before.before.before.before.before.before.frames.ensures, c.before.before.before.before.before.before.before.before.before.before.before.before.before.before.before.before.before.before.before.before.before.before.before.before.requires.1.net_of.ground.room, c.before.before.before.before.before.before.before.before.before.before.before.before.before.before.before.before.before.before.before.before.before.before.before.before.requires.1.net_of.ground.few)
 
 low-requires : tie.Need-low-requires
 low-requires c κs = search rules
@@ -47,7 +47,7 @@ ensure-requires : tie.Need-ensure-requires
 ensure-requires c κs =
     let R = c.before.before.before.before.before.before.before.before.before.before.before.before.before.before.before.before.before.before.before.before.before.before.before.before.before.before.before.requires.1 in
     let form° = c.before.before.before.before.before.before.before.before.before.before.before.before.before.before.before.before.before.before.before.before.before.before.form in (
-      (tables-fit (form°.ensures ∙ net-form R.net-of) (ready-grown R c.before.before.before.before.before.before.before.before.before.before.before.before.solve.ensures.1.0).tables).0,
+      (tables_fit (form°.ensures ∙ net-form R.net_of) (ready_grown R c.before.before.before.before.before.before.before.before.before.before.before.before.solve.ensures.1.0).tables).0,
       low_fits form°.result _ c.before.before.low.ensures,
       low_fits form°.result _ c.low3.ensures,
     )
@@ -62,10 +62,10 @@ same-length-3 : tie.Need-same-length-3
 same-length-3 c = search rules
 
 returns : tie.Need-returns
-returns c = (c.before.before.before.before.before.before.before.before.before.before.before.before.before.before.before.solve.ensures.1.1, λ s R. answered-yes R c.before.before.before.before.before.before.before.before.before.before.before.before.before.before.before.before.before.before.before.before.before.before.before.before.before.form.ensures c.before.before.before.before.before.before.before.before.before.before.before.before.before.before.before.before.before.before.before.before.before.before.before.free.ensures c.before.before.before.before.before.before.before.before.before.before.before.before.before.before.before.before.before.before.before.without.ensures c.before.before.before.before.before.before.before.before.before.before.before.before.before.before.before.before.before.before.of.ensures c.before.before.before.before.before.before.before.before.before.before.before.before.before.before.before.before.before.before.before.before.before.frames.ensures c.before.before.before.before.before.before.before.before.before.before.before.before.before.before.before.solve.ensures.1.0 (rw c.before.before.before.before.before.before.before.if1.true at c.before.before.before.before.before.before.before.before.before.before.before.before.before.before.before.solve.ensures.0) c.before.before.before.before.before.low.ensures c.before.before.before.before.low2.ensures c.before.before.before.low3.ensures c.before.before.ensure.ensures)
+returns c = (c.before.before.before.before.before.before.before.before.before.before.before.before.before.before.before.solve.ensures.1.1, λ s R. answered_yes R c.before.before.before.before.before.before.before.before.before.before.before.before.before.before.before.before.before.before.before.before.before.before.before.before.before.form.ensures c.before.before.before.before.before.before.before.before.before.before.before.before.before.before.before.before.before.before.before.before.before.before.before.free.ensures c.before.before.before.before.before.before.before.before.before.before.before.before.before.before.before.before.before.before.before.without.ensures c.before.before.before.before.before.before.before.before.before.before.before.before.before.before.before.before.before.before.of.ensures c.before.before.before.before.before.before.before.before.before.before.before.before.before.before.before.before.before.before.before.before.before.frames.ensures c.before.before.before.before.before.before.before.before.before.before.before.before.before.before.before.solve.ensures.1.0 (rw c.before.before.before.before.before.before.before.if1.true at c.before.before.before.before.before.before.before.before.before.before.before.before.before.before.before.solve.ensures.0) c.before.before.before.before.before.low.ensures c.before.before.before.before.low2.ensures c.before.before.before.low3.ensures c.before.before.ensure.ensures)
 
 cast-ensure-2 : tie.Need-overflow-cast-ensure-2
-cast-ensure-2 c = omega (arith, c.before.before.before.before.before.before.before.before.before.before.before.before.before.before.before.frames.ensures, c.before.before.before.before.before.before.before.before.before.before.before.before.before.before.before.before.before.before.before.before.before.before.before.before.requires.1.net-of.ground.room, c.before.before.before.before.before.before.before.before.before.before.before.before.before.before.before.before.before.before.before.before.before.before.before.before.requires.1.net-of.ground.few)
+cast-ensure-2 c = omega (arith, c.before.before.before.before.before.before.before.before.before.before.before.before.before.before.before.frames.ensures, c.before.before.before.before.before.before.before.before.before.before.before.before.before.before.before.before.before.before.before.before.before.before.before.before.requires.1.net_of.ground.room, c.before.before.before.before.before.before.before.before.before.before.before.before.before.before.before.before.before.before.before.before.before.before.before.before.requires.1.net_of.ground.few)
 
 low-requires-4 : tie.Need-low-requires-4
 low-requires-4 c κs = search rules
@@ -80,7 +80,7 @@ ensure-requires-2 : tie.Need-ensure-requires-2
 ensure-requires-2 c κs =
     let R = c.before.before.before.before.before.before.before.before.before.before.before.before.before.before.before.before.before.before.before.before.before.before.before.before.before.before.before.requires.1 in
     let form° = c.before.before.before.before.before.before.before.before.before.before.before.before.before.before.before.before.before.before.before.before.before.before.form in (
-      (tables-fit (form°.ensures ∙ net-form R.net-of) (ready-grown R c.before.before.before.before.before.before.before.before.before.before.before.before.solve.ensures.1.0).tables).1,
+      (tables_fit (form°.ensures ∙ net-form R.net_of) (ready_grown R c.before.before.before.before.before.before.before.before.before.before.before.before.solve.ensures.1.0).tables).1,
       low_fits form°.result _ c.before.before.low4.ensures,
       low_fits form°.result _ c.low6.ensures,
     )
@@ -95,7 +95,7 @@ same-length-6 : tie.Need-same-length-6
 same-length-6 c = search rules
 
 returns-2 : tie.Need-returns-2
-returns-2 c = (c.before.before.before.before.before.before.before.before.before.before.before.before.before.before.before.solve.ensures.1.1, λ s R. answered-no R c.before.before.before.before.before.before.before.before.before.before.before.before.before.before.before.before.before.before.before.before.before.before.before.before.before.form.ensures c.before.before.before.before.before.before.before.before.before.before.before.before.before.before.before.before.before.before.before.before.before.before.before.free.ensures c.before.before.before.before.before.before.before.before.before.before.before.before.before.before.before.before.before.before.before.without.ensures c.before.before.before.before.before.before.before.before.before.before.before.before.before.before.before.before.before.before.of.ensures c.before.before.before.before.before.before.before.before.before.before.before.before.before.before.before.before.before.before.before.before.before.frames.ensures c.before.before.before.before.before.before.before.before.before.before.before.before.before.before.before.solve.ensures.1.0 (rw c.before.before.before.before.before.before.before.if1.false at c.before.before.before.before.before.before.before.before.before.before.before.before.before.before.before.solve.ensures.0) c.before.before.before.before.before.low4.ensures c.before.before.before.before.low5.ensures c.before.before.before.low6.ensures c.before.before.ensure2.ensures)
+returns-2 c = (c.before.before.before.before.before.before.before.before.before.before.before.before.before.before.before.solve.ensures.1.1, λ s R. answered_no R c.before.before.before.before.before.before.before.before.before.before.before.before.before.before.before.before.before.before.before.before.before.before.before.before.before.form.ensures c.before.before.before.before.before.before.before.before.before.before.before.before.before.before.before.before.before.before.before.before.before.before.before.free.ensures c.before.before.before.before.before.before.before.before.before.before.before.before.before.before.before.before.before.before.before.without.ensures c.before.before.before.before.before.before.before.before.before.before.before.before.before.before.before.before.before.before.of.ensures c.before.before.before.before.before.before.before.before.before.before.before.before.before.before.before.before.before.before.before.before.before.frames.ensures c.before.before.before.before.before.before.before.before.before.before.before.before.before.before.before.solve.ensures.1.0 (rw c.before.before.before.before.before.before.before.if1.false at c.before.before.before.before.before.before.before.before.before.before.before.before.before.before.before.solve.ensures.0) c.before.before.before.before.before.low4.ensures c.before.before.before.before.low5.ensures c.before.before.before.low6.ensures c.before.before.ensure2.ensures)
 
 pub chosen-spec : {M : Type 1} → statement M
 chosen-spec =

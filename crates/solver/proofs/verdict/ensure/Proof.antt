@@ -2,7 +2,7 @@
 use native.Mathlib.Omega.{arith}
 use lib.Bits.{and_le_r}
 use borrow.Author.Rules.{rules}
-use Rattle.solver.specs.Ask.{ensured-found, ensured-put}
+use Rattle.solver.specs.Ask.{ensured_found, ensured_put}
 use Rattle.solver.proofs.verdict.ensure.Statement.{statement}
 use Rattle.solver.proofs.verdict.ensure.Tie as tie
 
@@ -19,7 +19,7 @@ returns : tie.Need-returns
 returns c =
     let enum-told° = c.enum_told in
     let search° = c.before.before.search in
-    ensured-found _ (rw enum-told°.given.1 at search°.ensures)
+    ensured_found _ (rw enum-told°.given.1 at search°.ensures)
 
 enum-told-2 : tie.Need-enum-told-2
 enum-told-2 c = search rules
@@ -36,7 +36,7 @@ same-length-2 c = search rules
 returns-2 : tie.Need-returns-2
 returns-2 c =
     let put° = c.before.before.put in
-    ensured-put _ _ put°.ensures
+    ensured_put _ _ put°.ensures
 
 pub ensure-spec : {M : Type 1} → statement M
 ensure-spec =

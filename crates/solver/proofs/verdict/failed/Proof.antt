@@ -1,5 +1,5 @@
 -- `solver::verdict::failed` meets its contract: the setting that was found, and its record. Assumes nothing.
-use Rattle.solver.specs.GaugedAsk.{failed-of}
+use Rattle.solver.specs.GaugedAsk.{failed_of}
 use Rattle.proxies.specs.KeptLaws.{low_fits}
 use mathlib.Core.Path.{refl}
 use borrow.Author.Rules.{rules}
@@ -37,7 +37,7 @@ same_length : tie.Need-same-length
 same_length c = search rules
 
 returns : tie.Need-returns
-returns c = (failed-of c.before.before.before.before.before.before.before.before.before.before.form.ensures c.before.before.before.before.before.before.before.before.before.frames.ensures c.before.before.before.before.before.before.low.ensures c.before.before.before.before.before.low2.ensures c.before.before.before.before.low3.ensures c.before.before.before.ensure.ensures c.without.ensures, refl)
+returns c = (failed_of c.before.before.before.before.before.before.before.before.before.before.form.ensures c.before.before.before.before.before.before.before.before.before.frames.ensures c.before.before.before.before.before.before.low.ensures c.before.before.before.before.before.low2.ensures c.before.before.before.before.low3.ensures c.before.before.before.ensure.ensures c.without.ensures, refl)
 
 pub failed-spec : {M : Type 1} → statement M
 failed-spec =

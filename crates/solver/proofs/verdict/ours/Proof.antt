@@ -1,6 +1,6 @@
 -- `solver::verdict::ours` meets its contract: read off the net. Assumes nothing.
 use mathlib.Core.Path.{◌∙◌}
-use Rattle.solver.specs.GaugedAsk.{ours-are}
+use Rattle.solver.specs.GaugedAsk.{ours_are}
 use borrow.Author.Rules.{rules}
 use Rattle.solver.proofs.verdict.ours.Statement.{statement}
 use Rattle.solver.proofs.verdict.ours.Tie as tie
@@ -18,7 +18,7 @@ without-requires-2 : tie.Need-without-requires-2
 without-requires-2 c κs = search rules
 
 returns : tie.Need-returns
-returns c = λ s N. c.without2.ensures ∙ rw (c.before.before.without.ensures, c.before.before.before.free.ensures, c.before.gauges.ensures) (ours-are N c.before.before.before.before.before.args.mask)
+returns c = λ s N. c.without2.ensures ∙ rw (c.before.before.without.ensures, c.before.before.before.free.ensures, c.before.gauges.ensures) (ours_are N c.before.before.before.before.before.args.mask)
 
 pub ours-spec : {M : Type 1} → statement M
 ours-spec =

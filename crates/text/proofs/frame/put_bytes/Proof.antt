@@ -8,7 +8,7 @@ use mathlib.Core.Path.{◌≡◌, refl, sym, ◌∙◌}
 use lib.ListN.{length, drop, length-set}
 use lib.Seq.{sets, drop-drop}
 use Rattle.text.specs.Line.{digits, bytes}
-use Rattle.text.specs.LineLaws.{digits-two, bytes-put, bytes-none}
+use Rattle.text.specs.LineLaws.{digits_two, bytes-put, bytes-none}
 use Rattle.text.proofs.frame.put_bytes.Statement.{statement}
 use Rattle.text.proofs.frame.put_bytes.Tie as tie
 
@@ -30,7 +30,7 @@ byte-requires c κs =
     let a = c.before.before.before.before.args in
     let t = c.loop-test.true in
     let e : 2 * (a.count - l.i) ≡ suc (suc (2 * (a.count - (l.i + 1)))) = omega (arith, t) in
-    (omega (arith, t, l.invariant, c.before.before.before.before.requires), (digits-two _ _ (rw e at l.invariant.4)).0)
+    (omega (arith, t, l.invariant, c.before.before.before.before.requires), (digits_two _ _ (rw e at l.invariant.4)).0)
 
 slice-write-out : tie.Need-slice-write-out invariant-loop decreases-loop
 slice-write-out c = omega (arith, c.before.loop-test.true, c.before.before.loop.invariant, c.before.before.before.before.before.requires)
@@ -58,7 +58,7 @@ loop-again c =
       omega (arith, l.invariant),
       omega (arith, l.invariant),
       simp length-set l.invariant.3,
-      rw (drop-drop 2) at (digits-two _ _ (rw e at l.invariant.4)).1,
+      rw (drop-drop 2) at (digits_two _ _ (rw e at l.invariant.4)).1,
       l.invariant.5 ∙ rw f (bytes-put _ l.at a.text.now l.out l.to _ c.byte.ensures),
     )
 

@@ -7,9 +7,9 @@ use native.Mathlib.Numerals.{unary_clauses, add-one}
 use mathlib.Core.Path.{◌≡◌, refl, sym, ap, ◌∙◌}
 use lib.ListN.{length, drop, length-drop}
 use lib.Seq.{sets, length-sets}
-use Rattle.text.specs.Line.{lines, lineSize}
-use Rattle.text.specs.LineStores.{record-within}
-use Rattle.text.specs.LineLaws.{lines_none, first-line, line-digits, size-shape, other-lines, frames-put, next-within}
+use Rattle.text.specs.Line.{lines, line_size}
+use Rattle.text.specs.LineStores.{record_within}
+use Rattle.text.specs.LineLaws.{lines_none, first-line, line-digits, size_shape, other-lines, frames-put, next-within}
 use Rattle.text.proofs.frame.put_frames.Statement.{statement}
 use Rattle.text.proofs.frame.put_frames.Tie as tie
 
@@ -32,10 +32,10 @@ put-bytes-requires c κs =
     let a = c.before.before.before.before.before.args in
     let t = c.before.loop-test.true in
     let e : a.count - l.i ≡ suc (a.count - (l.i + 1)) = omega (arith, t) in
-    let f : 0 < lineSize a.size (drop l.at a.text.now) = first-line a.size _ _ (rw e at l.invariant.4) in (
+    let f : 0 < line_size a.size (drop l.at a.text.now) = first-line a.size _ _ (rw e at l.invariant.4) in (
       omega (arith, line-digits a.size _ f, length-drop l.at a.text.now, l.invariant),
-      (size-shape a.size _ f).0,
-      omega (arith, record-within a.size l.i a.count t, l.invariant, c.before.before.before.before.before.requires),
+      (size_shape a.size _ f).0,
+      omega (arith, record_within a.size l.i a.count t, l.invariant, c.before.before.before.before.before.requires),
     )
 
 add-i : tie.Need-overflow-add-i invariant-loop decreases-loop
@@ -52,7 +52,7 @@ add-to : tie.Need-overflow-add-to invariant-loop decreases-loop
 add-to c =
     let a = c.before.before.before.before.before.before.before.before.before.args in
     let l = c.before.before.before.before.before.before.loop in
-    omega (arith, record-within a.size l.i a.count c.before.before.before.before.before.loop-test.true, l.invariant, c.before.before.before.before.before.before.before.before.before.requires, c.before.before.before.before.before.before.before.before.before.well-formed)
+    omega (arith, record_within a.size l.i a.count c.before.before.before.before.before.loop-test.true, l.invariant, c.before.before.before.before.before.before.before.before.before.requires, c.before.before.before.before.before.before.before.before.before.well-formed)
 
 loop-less : tie.Need-loop-smaller invariant-loop decreases-loop
 loop-less c = omega (arith, c.before.before.before.before.before.loop-test.true)

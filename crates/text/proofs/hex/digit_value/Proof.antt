@@ -2,7 +2,7 @@
 use borrow.Author.Rules.{rules}
 use native.Mathlib.Omega.{arith}
 use mathlib.Core.Path.{sym}
-use Rattle.text.specs.HexLaws.{value-decimal, value-capital, value-lower, value-below, value-before-capitals, value-before-lower, value-above}
+use Rattle.text.specs.HexLaws.{value-decimal, value-capital, value-lower, value-below, value-before_capitals, value-before-lower, value-above}
 use Rattle.text.proofs.hex.digit_value.Statement.{statement}
 use Rattle.text.proofs.hex.digit_value.Tie as tie
 
@@ -13,7 +13,7 @@ returns-2 : tie.Need-returns-2
 returns-2 c = sym (value-decimal _ (omega arith) (omega arith))
 
 returns-3 : tie.Need-returns-3
-returns-3 c = sym (value-before-capitals _ (omega arith) (omega arith))
+returns-3 c = sym (value-before_capitals _ (omega arith) (omega arith))
 
 sub-result : tie.Need-overflow-sub-result
 sub-result c = search rules

@@ -6,7 +6,7 @@ use mathlib.Core.List.{List}
 use mathlib.Core.Path.{◌≡◌, refl, sym, ap, ◌∙◌}
 use lib.ListN.{length, drop, length-set, drop_of_length-le}
 use lib.Seq.{sets}
-use Rattle.text.specs.Hex.{hexLine}
+use Rattle.text.specs.Hex.{hex_line}
 use Rattle.text.specs.LineStores.{line-put, line-end}
 use Rattle.text.proofs.hex.put_line.Statement.{statement}
 use Rattle.text.proofs.hex.put_line.Tie as tie
@@ -14,7 +14,7 @@ use Rattle.text.proofs.hex.put_line.Tie as tie
 abbrev invariant-loop : tie.invariant-loop
 invariant-loop bytes out₀ place i₀ to₀ out i to =
     (i ≤ length bytes) × (to ≡ place + 2 * i) × (length out ≡ length out₀) × (place + (2 * length bytes + 1) ≤ length out₀)
-    × (sets out₀ place (hexLine bytes) ≡ sets out to (hexLine (drop i bytes)))
+    × (sets out₀ place (hex_line bytes) ≡ sets out to (hex_line (drop i bytes)))
 
 abbrev decreases-loop : tie.decreases-loop
 decreases-loop bytes out₀ place i₀ to₀ out i to = length bytes - i
@@ -60,7 +60,7 @@ returns : tie.Need-returns invariant-loop decreases-loop
 returns c =
     let l = c.before.loop in
     let a = c.before.before.before.before.args in
-    sym (l.invariant.4 ∙ ap (λ (r : List ℕ). sets l.out l.to (hexLine r)) (drop_of_length-le a.bytes.now c.loop-test.false) ∙ line-end l.out l.to)
+    sym (l.invariant.4 ∙ ap (λ (r : List ℕ). sets l.out l.to (hex_line r)) (drop_of_length-le a.bytes.now c.loop-test.false) ∙ line-end l.out l.to)
 
 pub put-line-spec : {M : Type 1} → statement M
 put-line-spec =

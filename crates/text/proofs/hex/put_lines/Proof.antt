@@ -7,15 +7,15 @@ use native.Mathlib.Omega.{arith}
 use mathlib.Core.Path.{◌≡◌, refl, sym, ap, ◌∙◌}
 use lib.ListN.{length, take, drop, length-drop}
 use lib.Seq.{sets, length-sets, length-take-le}
-use Rattle.text.specs.Hex.{hexLine, hexLines}
-use Rattle.text.specs.LineStores.{record-within, lines_none, lines-put}
+use Rattle.text.specs.Hex.{hex_line, hex_lines}
+use Rattle.text.specs.LineStores.{record_within, lines_none, lines-put}
 use Rattle.text.proofs.hex.put_lines.Statement.{statement}
 use Rattle.text.proofs.hex.put_lines.Tie as tie
 
 abbrev invariant-loop : tie.invariant-loop
 invariant-loop bytes size n out₀ i₀ at₀ to₀ out i at to =
     (i ≤ n) × (at ≡ i * size) × (to ≡ i * (2 * size + 1)) × (length out ≡ length out₀)
-    × (sets out₀ 0 (hexLines size n bytes) ≡ sets out to (hexLines size (n - i) (drop at bytes)))
+    × (sets out₀ 0 (hex_lines size n bytes) ≡ sets out to (hex_lines size (n - i) (drop at bytes)))
 
 abbrev decreases-loop : tie.decreases-loop
 decreases-loop bytes size n out₀ i₀ at₀ to₀ out i at to = n - i
@@ -27,7 +27,7 @@ loop-holds c =
 add-end : tie.Need-overflow-add-end invariant-loop decreases-loop
 add-end c =
     let a = c.before.before.before.before.args in
-    omega (arith, record-within a.size c.before.loop.i a.n c.loop-test.true, c.before.loop.invariant, c.before.before.before.before.requires, c.before.before.before.before.well-formed)
+    omega (arith, record_within a.size c.before.loop.i a.n c.loop-test.true, c.before.loop.invariant, c.before.before.before.before.requires, c.before.before.before.before.well-formed)
 
 sub-put-line : tie.Need-overflow-sub-put-line invariant-loop decreases-loop
 sub-put-line c = search rules
@@ -38,17 +38,17 @@ part-put-line-start c = search rules
 part-put-line-end : tie.Need-slice-bounds-put-line-end invariant-loop decreases-loop
 part-put-line-end c =
     let a = c.before.before.before.before.args in
-    omega (arith, record-within a.size c.before.loop.i a.n c.loop-test.true, c.before.loop.invariant, c.before.before.before.before.requires)
+    omega (arith, record_within a.size c.before.loop.i a.n c.loop-test.true, c.before.loop.invariant, c.before.before.before.before.requires)
 
 put-line-requires : tie.Need-put-line-requires invariant-loop decreases-loop
 put-line-requires c κs =
     let a = c.before.before.before.before.before.before.args in
     let l = c.before.before.before.loop in
     let t = c.before.before.loop-test.true in
-    let h : l.at + a.size ≤ length a.bytes.now = omega (arith, record-within a.size l.i a.n t, l.invariant, c.before.before.before.before.before.before.requires) in
+    let h : l.at + a.size ≤ length a.bytes.now = omega (arith, record_within a.size l.i a.n t, l.invariant, c.before.before.before.before.before.before.requires) in
     let e : l.at + a.size - l.at ≡ a.size = omega arith in
     let n : length (take a.size (drop l.at a.bytes.now)) ≡ a.size = length-take-le a.size (drop l.at a.bytes.now) (omega (arith, h, length-drop l.at a.bytes.now)) in
-    rw e (omega (arith, n, record-within (2 * a.size + 1) l.i a.n t, l.invariant, c.before.before.before.before.before.before.requires))
+    rw e (omega (arith, n, record_within (2 * a.size + 1) l.i a.n t, l.invariant, c.before.before.before.before.before.before.requires))
 
 add-i : tie.Need-overflow-add-i invariant-loop decreases-loop
 add-i c = search rules
@@ -64,7 +64,7 @@ add-to-2 c =
     let a = c.before.before.before.before.before.before.before.before.before.args in
     let l = c.before.before.before.before.before.before.loop in
     let t = c.before.before.before.before.before.loop-test.true in
-    omega (arith, record-within (2 * a.size + 1) l.i a.n t, l.invariant, c.before.before.before.before.before.before.before.before.before.requires, c.before.before.before.before.before.before.before.before.before.well-formed)
+    omega (arith, record_within (2 * a.size + 1) l.i a.n t, l.invariant, c.before.before.before.before.before.before.before.before.before.requires, c.before.before.before.before.before.before.before.before.before.well-formed)
 
 loop-less : tie.Need-loop-smaller invariant-loop decreases-loop
 loop-less c = omega (arith, c.before.before.before.before.before.loop-test.true)
@@ -78,7 +78,7 @@ loop-again c =
     let s : l.at + a.size - l.at ≡ a.size = omega arith in
     let p = rw s at c.before.before.put-line.ensures in
     let h : l.at + a.size ≤ length a.bytes.now =
-    omega (arith, record-within a.size l.i a.n t, l.invariant, c.before.before.before.before.before.before.before.before.before.requires) in (
+    omega (arith, record_within a.size l.i a.n t, l.invariant, c.before.before.before.before.before.before.before.before.before.requires) in (
       omega (arith, t),
       rw (add-one, suc-mul) (omega (arith, l.invariant)),
       rw (add-one, suc-mul) (omega (arith, l.invariant)),

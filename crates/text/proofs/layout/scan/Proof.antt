@@ -6,7 +6,7 @@ use lib.ListN.{drop, length-drop}
 use Rattle.form.specs.Form.{most-place}
 use Rattle.text.specs.Reading.{Scanned}
 use Rattle.text.specs.LineLaws.{ending-within}
-use Rattle.text.specs.ReadingLaws.{few_bytes, long-sheet, no-empty-line, long-script, bad-line, parts}
+use Rattle.text.specs.ReadingLaws.{few_bytes, long-sheet, no_empty_line, long-script, bad_line, parts}
 use Rattle.text.proofs.layout.scan.Statement.{statement}
 use Rattle.text.proofs.layout.scan.Tie as tie
 
@@ -36,7 +36,7 @@ returns-2 : tie.Need-returns-2
 unfolding Scanned
 returns-2 c =
     let a = c.before.before.before.before.before.before.before.before.before.args in
-    no-empty-line a.form a.text.now _ _ c.before.before.before.before.before.before.frame-bytes.ensures c.before.before.before.before.before.before.before.most-frames.ensures c.before.before.before.before.before.lines.result c.before.before.before.before.before.lines.ensures (omega (arith, c.before.before.before.if1.false))
+    no_empty_line a.form a.text.now _ _ c.before.before.before.before.before.before.frame-bytes.ensures c.before.before.before.before.before.before.before.most-frames.ensures c.before.before.before.before.before.lines.result c.before.before.before.before.before.lines.ensures (omega (arith, c.before.before.before.if1.false))
     _ c.before.before.ending.ensures c.before.if2.true
     ∙ rw c.sheet-fault.ensures
 
@@ -66,7 +66,7 @@ returns-4 : tie.Need-returns-4
 unfolding Scanned
 returns-4 c =
     let a = c.before.before.before.before.before.before.before.before.before.before.before.before.before.before.args in
-    bad-line a.form a.text.now _ _ c.before.before.before.before.before.before.before.before.before.before.before.frame-bytes.ensures c.before.before.before.before.before.before.before.before.before.before.before.before.most-frames.ensures c.before.before.before.before.before.before.before.before.before.before.lines.result c.before.before.before.before.before.before.before.before.before.before.lines.ensures (omega (arith, c.before.before.before.before.before.before.before.before.if1.false))
+    bad_line a.form a.text.now _ _ c.before.before.before.before.before.before.before.before.before.before.before.frame-bytes.ensures c.before.before.before.before.before.before.before.before.before.before.before.before.most-frames.ensures c.before.before.before.before.before.before.before.before.before.before.lines.result c.before.before.before.before.before.before.before.before.before.before.lines.ensures (omega (arith, c.before.before.before.before.before.before.before.before.if1.false))
     _ c.before.before.before.before.before.before.before.ending.ensures c.before.before.before.before.before.before.if2.false c.before.before.before.before.lines2.result c.before.before.before.before.lines2.ensures c.before.before.if3.false c.if4.true
 
 returns-5 : tie.Need-returns-5

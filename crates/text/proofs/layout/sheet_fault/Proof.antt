@@ -2,10 +2,10 @@
 use borrow.Author.Rules.{rules}
 use mathlib.Core.Path.{◌≡◌, sym, ◌∙◌}
 use lib.ListN.{drop}
-use Rattle.form.specs.Form.{frameBytes}
-use Rattle.text.specs.Line.{lineSize}
+use Rattle.form.specs.Form.{frame_bytes}
+use Rattle.text.specs.Line.{line_size}
 use Rattle.text.specs.Reading.{other}
-use Rattle.text.specs.ReadingLaws.{few_bytes, fault-other, fault-shape}
+use Rattle.text.specs.ReadingLaws.{few_bytes, fault_other, fault_shape}
 use Rattle.text.proofs.layout.sheet_fault.Statement.{statement}
 use Rattle.text.proofs.layout.sheet_fault.Tie as tie
 
@@ -21,16 +21,16 @@ line-size-requires c κs = (c.before.before.before.requires, rw c.frame-bytes.en
 returns : tie.Need-returns
 returns c =
     let a = c.before.before.before.before.before.args in
-    let e : c.before.line-size.result ≡ lineSize (frameBytes (other a.form)) (drop a.at a.text.now) =
+    let e : c.before.line-size.result ≡ line_size (frame_bytes (other a.form)) (drop a.at a.text.now) =
     c.before.line-size.ensures ∙ rw (c.before.before.frame-bytes.ensures, c.before.before.before.other.ensures) in
-    sym (fault-other a.form _ _ e c.if1.true)
+    sym (fault_other a.form _ _ e c.if1.true)
 
 returns-2 : tie.Need-returns-2
 returns-2 c =
     let a = c.before.before.before.before.before.args in
-    let e : c.before.line-size.result ≡ lineSize (frameBytes (other a.form)) (drop a.at a.text.now) =
+    let e : c.before.line-size.result ≡ line_size (frame_bytes (other a.form)) (drop a.at a.text.now) =
     c.before.line-size.ensures ∙ rw (c.before.before.frame-bytes.ensures, c.before.before.before.other.ensures) in
-    sym (fault-shape a.form _ _ e c.if1.false)
+    sym (fault_shape a.form _ _ e c.if1.false)
 
 pub sheet-fault-spec : {M : Type 1} → statement M
 sheet-fault-spec =

@@ -1,7 +1,7 @@
 -- `text::layout::wide` meets its contract: the text's first line decides. Assumes nothing.
 use borrow.Author.Rules.{rules}
 use native.Mathlib.Omega.{arith}
-use Rattle.text.specs.Reading.{beginsWide}
+use Rattle.text.specs.Reading.{begins_wide}
 use Rattle.text.proofs.layout.wide.Statement.{statement}
 use Rattle.text.proofs.layout.wide.Tie as tie
 
@@ -12,7 +12,7 @@ line-size-requires : tie.Need-line-size-requires
 line-size-requires c κs = (omega arith, omega (arith, c.frame-bytes.ensures))
 
 returns : tie.Need-returns
-unfolding beginsWide
+unfolding begins_wide
 returns c = rw (c.line-size.ensures, c.before.frame-bytes.ensures)
 
 pub wide_spec : {M : Type 1} → statement M

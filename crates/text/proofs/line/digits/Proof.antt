@@ -6,9 +6,9 @@ use native.Mathlib.Numerals.{unary_clauses}
 use mathlib.Core.Path.{◌≡◌, sym, ap, ◌∙◌}
 use lib.ListN.{drop}
 use lib.Seq.{drop-drop}
-use Rattle.text.specs.Hex.{digitValue}
+use Rattle.text.specs.Hex.{digit_value}
 use Rattle.text.specs.Line.{digits}
-use Rattle.text.specs.LineLaws.{digits-none, digits-stop, digits-go}
+use Rattle.text.specs.LineLaws.{digits-none, digits_stop, digits-go}
 use Rattle.text.proofs.line.digits.Statement.{statement}
 use Rattle.text.proofs.line.digits.Tie as tie
 
@@ -33,8 +33,8 @@ returns c =
     let l = c.before.before.before.before.loop in
     let a = c.before.before.before.before.before.before.args in
     let e : a.count - l.i ≡ suc (a.count - (l.i + 1)) = omega (arith, c.before.before.before.loop-test.true) in
-    let d = c.before.digit_value.ensures ∙ ap digitValue c.before.before.byte_at.ensures in
-    sym (l.invariant.2 ∙ rw e (digits-stop _ _ _ d c.if1.true))
+    let d = c.before.digit_value.ensures ∙ ap digit_value c.before.before.byte_at.ensures in
+    sym (l.invariant.2 ∙ rw e (digits_stop _ _ _ d c.if1.true))
 
 add-i : tie.Need-overflow-add-i invariant-loop decreases-loop
 add-i c = search rules
@@ -52,7 +52,7 @@ loop-again c =
     let a = c.before.before.before.before.before.before.args in
     let t = c.before.before.before.loop-test.true in
     let e : a.count - l.i ≡ suc (a.count - (l.i + 1)) = omega (arith, t) in
-    let d = c.before.digit_value.ensures ∙ ap digitValue c.before.before.byte_at.ensures in (
+    let d = c.before.digit_value.ensures ∙ ap digit_value c.before.before.byte_at.ensures in (
       omega (arith, t),
       omega (arith, l.invariant),
       l.invariant.2 ∙ rw e (digits-go _ _ _ d c.if1.false ∙ rw (drop-drop 1)),

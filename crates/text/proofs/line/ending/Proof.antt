@@ -2,7 +2,7 @@
 use borrow.Author.Rules.{rules}
 use native.Mathlib.Omega.{arith}
 use mathlib.Core.Path.{sym, ◌∙◌}
-use Rattle.text.specs.LineLaws.{head-next, head-within, ending-feed, ending-other, ending-return, ending-lone}
+use Rattle.text.specs.LineLaws.{head-next, head-within, ending-feed, ending-other, ending_return, ending_lone}
 use Rattle.text.proofs.line.ending.Statement.{statement}
 use Rattle.text.proofs.line.ending.Tie as tie
 
@@ -26,12 +26,12 @@ byte-at-requires-2 c κs = search rules
 returns-3 : tie.Need-returns-3
 returns-3 c =
     let a = c.before.before.before.before.before.before.args in
-    sym (ending-return _ _ c.before.before.before.before.byte_at.ensures c.before.before.if2.false _ (c.before.byte-at2.ensures ∙ sym (head-next a.at a.text.now)) c.if3.true)
+    sym (ending_return _ _ c.before.before.before.before.byte_at.ensures c.before.before.if2.false _ (c.before.byte-at2.ensures ∙ sym (head-next a.at a.text.now)) c.if3.true)
 
 returns-4 : tie.Need-returns-4
 returns-4 c =
     let a = c.before.before.before.before.before.before.args in
-    sym (ending-lone _ _ c.before.before.before.before.byte_at.ensures c.before.before.if2.false _ (c.before.byte-at2.ensures ∙ sym (head-next a.at a.text.now)) c.if3.false)
+    sym (ending_lone _ _ c.before.before.before.before.byte_at.ensures c.before.before.if2.false _ (c.before.byte-at2.ensures ∙ sym (head-next a.at a.text.now)) c.if3.false)
 
 pub ending-spec : {M : Type 1} → statement M
 ending-spec =

@@ -5,8 +5,8 @@ use native.Mathlib.Nat.{zero-add}
 use native.Mathlib.Numerals.{unary_clauses}
 use mathlib.Core.Path.{◌≡◌, sym, ap, ◌∙◌}
 use lib.ListN.{length, drop}
-use Rattle.text.specs.Line.{Lines, noLines, lineThen, lines}
-use Rattle.text.specs.LineLaws.{lines_none, lines-stop, lines-turn, next-within}
+use Rattle.text.specs.Line.{Lines, no_lines, line_then, lines}
+use Rattle.text.specs.LineLaws.{lines_none, lines_stop, lines-turn, next-within}
 use Rattle.text.proofs.line.lines.Statement.{statement}
 use Rattle.text.proofs.line.lines.Tie as tie
 
@@ -30,8 +30,8 @@ returns c =
     let l = c.before.before.before.loop in
     let a = c.before.before.before.before.before.args in
     let e : a.most - l.count ≡ suc (a.most - (l.count + 1)) = omega (arith, c.before.before.loop-test.true) in
-    let s : lines a.size (a.most - l.count) (drop l.end a.text.now) ≡ noLines (drop l.end a.text.now) =
-    rw e (lines-stop a.size _ _ (sym c.before.line-size.ensures ∙ c.if1.true)) in
+    let s : lines a.size (a.most - l.count) (drop l.end a.text.now) ≡ no_lines (drop l.end a.text.now) =
+    rw e (lines_stop a.size _ _ (sym c.before.line-size.ensures ∙ c.if1.true)) in
     record {
       count = omega (arith, l.invariant.2, ap (λ (k : Lines). k.count) s);
       rest = sym (l.invariant.3 ∙ ap (λ (k : Lines). k.rest) s);
@@ -54,7 +54,7 @@ loop-again c =
     let a = c.before.before.before.before.before.args in
     let t = c.before.before.loop-test.true in
     let e : a.most - l.count ≡ suc (a.most - (l.count + 1)) = omega (arith, t) in
-    let s : lines a.size (a.most - l.count) (drop l.end a.text.now) ≡ lineThen a.size (drop l.end a.text.now) (lines a.size (a.most - (l.count + 1)) (drop (l.end + c.before.line-size.result) a.text.now)) =
+    let s : lines a.size (a.most - l.count) (drop l.end a.text.now) ≡ line_then a.size (drop l.end a.text.now) (lines a.size (a.most - (l.count + 1)) (drop (l.end + c.before.line-size.result) a.text.now)) =
     rw e (lines-turn a.size a.text.now l.end _ c.before.line-size.ensures _ (omega (arith, c.if1.false))) in (
       omega (arith, t),
       next-within a.size a.text.now l.end _ c.before.line-size.ensures l.invariant.1,
@@ -67,7 +67,7 @@ returns-2 c =
     let l = c.before.loop in
     let a = c.before.before.before.args in
     let z : a.most - l.count ≡ 0 = omega (arith, c.loop-test.false) in
-    let s : lines a.size (a.most - l.count) (drop l.end a.text.now) ≡ noLines (drop l.end a.text.now) = rw z (lines_none a.size _) in
+    let s : lines a.size (a.most - l.count) (drop l.end a.text.now) ≡ no_lines (drop l.end a.text.now) = rw z (lines_none a.size _) in
     record {
       count = omega (arith, l.invariant.2, ap (λ (k : Lines). k.count) s);
       rest = sym (l.invariant.3 ∙ ap (λ (k : Lines). k.rest) s);

@@ -1,7 +1,7 @@
 -- `text::record::record_lines` meets its contract: `put_lines` stores the lines of as many records as are whole and have room. Assumes nothing.
 use borrow.Author.Rules.{rules}
 use native.Mathlib.Omega.{arith}
-use Rattle.text.specs.AnswerLaws.{whole-records, room-lines, wrote-lines}
+use Rattle.text.specs.AnswerLaws.{whole-records, room-lines, wrote_lines}
 use Rattle.text.proofs.record.record_lines.Statement.{statement}
 use Rattle.text.proofs.record.record_lines.Tie as tie
 
@@ -38,7 +38,7 @@ same_length c = search rules
 returns : tie.Need-returns
 returns c =
     let a = c.before.before.before.before.before.before.before.args in
-    wrote-lines a.size a.records.now a.out.now _ c.before.before.before.before.lesser.ensures c.before.before.put-lines.ensures
+    wrote_lines a.size a.records.now a.out.now _ c.before.before.before.before.lesser.ensures c.before.before.put-lines.ensures
 
 pub record-lines-spec : {M : Type 1} → statement M
 record-lines-spec =
