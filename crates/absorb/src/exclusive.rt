@@ -101,7 +101,7 @@ pub fn deep(net: &[u64], words: &mut [u64]) -> u64
 // ---- the shape
 
 // A node, or its negation.
-#[derive(Drop)]
+#[derive(Clone, Copy)]
 struct Literal {
     node: usize,
     negated: bool,
@@ -119,7 +119,7 @@ fn literal_at(net: &[u64], a: usize, negated: bool) -> Literal {
 }
 
 // A gate of two literals: AND is 4, OR is 5, and 0 is none.
-#[derive(Drop)]
+#[derive(Clone, Copy)]
 struct Side {
     op: u8,
     left: Literal,
@@ -208,7 +208,7 @@ pub fn operands(net: &[u64], gate: Node) -> u64 {
 // ---- the uses of variables
 
 // Variables by how often the nodes that are reached use them, as they are or under a NOT: at least once, twice, three times.
-#[derive(Drop)]
+#[derive(Clone, Copy)]
 struct Uses {
     once: u64,
     twice: u64,

@@ -1,4 +1,6 @@
 // The second rewrite: a node that flips with a bound variable y, where y is read through it only, becomes y.
+#![tactic(auto)]
+
 mod cone;
 mod exclusive;
 mod propose;
@@ -90,7 +92,7 @@ fn try_absorb(
 // ---- what is tried
 
 // Whether a node was absorbed, and how many steps may be made yet.
-#[derive(Drop)]
+#[derive(Clone, Copy)]
 struct Tried {
     done: bool,
     steps: usize,

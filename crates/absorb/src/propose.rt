@@ -15,7 +15,7 @@ const MOST_SIDES: usize = 5;
 const MOST_WAITING: usize = 64;
 
 // A cone that grows: how many side nodes it has, how many of its gates wait to be looked at, how many steps may be made, and whether it was given up.
-#[derive(Drop)]
+#[derive(Clone, Copy)]
 pub struct Growth {
     pub sides: usize,
     pub waiting: usize,

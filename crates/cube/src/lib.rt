@@ -1,5 +1,7 @@
 // A cube: the variables that are fixed, and their values. `Cube` is document 01's, of 32 variables; `Cube64` has 64, as records, the search and a
 // session use it.
+#![tactic(auto)]
+
 mod wide;
 
 ghost use Rattle.std.specs.Prelude.{◌≡◌, true};
@@ -8,7 +10,7 @@ ghost use Rattle.cube.specs.Cube.{Fixed, Freed, FreedAll, Made};
 
 pub use wide::Cube64;
 
-#[derive(Drop)]
+#[derive(Clone, Copy)]
 pub struct Cube {
     pub mask: u32,
     pub values: u32,

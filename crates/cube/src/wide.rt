@@ -3,7 +3,7 @@ ghost use Rattle.std.specs.Prelude.{◌≡◌, true};
 ghost use Rattle.words.specs.Mask.{agree};
 ghost use Rattle.cube.specs.Cube.{Fixed, Freed, FreedAll, Made};
 
-#[derive(Drop)]
+#[derive(Clone, Copy)]
 pub struct Cube64 {
     pub mask: u64,
     pub values: u64,

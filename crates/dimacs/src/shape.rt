@@ -7,7 +7,7 @@ use crate::token;
 use crate::token::Token;
 
 // What may come next.
-#[derive(Drop)]
+#[derive(Clone, Copy)]
 pub enum Phase {
     AtProblem,
     AtFormat,
@@ -26,7 +26,7 @@ pub enum Phase {
 }
 
 // The phase, the problem line's variables, how many clauses are left, and the kind of the last block: 0 for none, 1 for e, 2 for a.
-#[derive(Drop)]
+#[derive(Clone, Copy)]
 pub struct State {
     pub phase: Phase,
     pub variables: u32,

@@ -4,7 +4,7 @@ ghost use Rattle.std.proofs.Math.Seq.{slice};
 ghost use Rattle.dimacs.specs.Token as Field;
 ghost use Rattle.dimacs.specs.Token.{after_blanks, no_number, Taken};
 
-#[derive(Drop)]
+#[derive(Clone, Copy)]
 pub enum Token {
     // The end of a line.
     Line,
@@ -20,7 +20,7 @@ pub enum Token {
 }
 
 // A field, and where the text goes on behind it.
-#[derive(Drop)]
+#[derive(Clone, Copy)]
 pub struct Step {
     pub token: Token,
     pub end: usize,

@@ -1,5 +1,7 @@
 // Runs sheet L of document 01's panel cases and then uses the record finder as a caller of the library does: for some frames and settings
 // it prints the record of three numbers that is handed back, or that there is none. Then the same on a wide sheet, whose records have five.
+#![tactic(auto)]
+
 use libc::STDOUT_FILENO;
 
 // Ten frames; variables 0 and 1 are open.

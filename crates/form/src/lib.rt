@@ -1,9 +1,11 @@
 // The two forms of a sheet: every size that depends on the form is named here once. Only leaves know a layout: a frame's fields (sheet), a record
 // (records), an answer (run), a line of text (text).
+#![tactic(auto)]
+
 ghost use Rattle.std.specs.Prelude.{◌≡◌};
 ghost use Rattle.form.specs.Form as Sizes;
 
-#[derive(Drop)]
+#[derive(Clone, Copy)]
 pub enum Form {
     Narrow,
     Wide,

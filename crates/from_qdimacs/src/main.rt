@@ -1,4 +1,6 @@
 // The program: the text of a question from standard input, and the lines of its sheet to standard output.
+#![tactic(auto)]
+
 ghost use Rattle.std.specs.Prelude.{◌≤◌, length};
 ghost use Rattle.from_qdimacs.specs.Converted.{Prints};
 

@@ -1,4 +1,6 @@
 // The two entries for a host program in C.
+#![tactic(auto)]
+
 ghost use Rattle.std.specs.Prelude.{◌≡◌};
 ghost use Rattle.sheet.specs.Fields.{narrow, wide};
 ghost use Rattle.hammerloom.specs.Host.{result_of, Host};

@@ -1,6 +1,8 @@
 // A smaller reason for what a search found. Judging keeps the first reason that it comes to; here the values under the found word are gone through once more,
 // and a gate that both its sides decide takes the side with fewer variables outside the search's own, which are dropped in the end. Such a reason settles more
 // of the other candidates. How small it is has no promise.
+#![tactic(auto)]
+
 ghost use Rattle.std.specs.Prelude.{◌≡◌, true, ◌+◌, ◌<◌, ◌≤◌, length};
 ghost use Rattle.words.specs.Word.{bit};
 ghost use Rattle.formula.specs.Reason.{Explains};

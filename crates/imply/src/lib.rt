@@ -1,5 +1,7 @@
 // Backward implication: from the truth that node a must have to the variables that it forces. What the scratch `wants` holds before a call is of no
 // account: it is wiped first.
+#![tactic(auto)]
+
 ghost use Rattle.std.specs.Prelude.{◌≡◌, List, ℕ, ◌+◌, ◌<◌, ◌≤◌, ◌^◌, length};
 ghost use Rattle.std.specs.Int.Bits.{bit_or};
 ghost use Rattle.net.specs.Layout.{HasNode, Ground, Is};
@@ -16,7 +18,7 @@ use net::{Node, node_at};
 use words::w64;
 
 // The variables that are forced, and their values.
-#[derive(Drop)]
+#[derive(Clone, Copy)]
 pub struct Forced {
     pub mask: u64,
     pub values: u64,

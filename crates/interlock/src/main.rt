@@ -1,4 +1,6 @@
 // The program: a text from standard input, and what is printed for it to standard output.
+#![tactic(auto)]
+
 ghost use Rattle.std.specs.Prelude.{◌≤◌, length};
 ghost use Rattle.text.specs.Prefix.{decisive};
 ghost use Rattle.response.specs.Printed.{printed, Starts};

@@ -7,7 +7,7 @@ ghost use Rattle.judge.specs.Cells.{HasCell, Vacant, value_of, reason_of, Stored
 pub const END: u16 = 65535;
 
 // What is known of a node: 0 nothing, 1 false, 2 true; and the variables that force the value.
-#[derive(Drop)]
+#[derive(Clone, Copy)]
 pub struct Known {
     pub value: u8,
     pub reason: u64,

@@ -21,7 +21,7 @@ pub const ONES: u64 = 18446744073709551615;
 
 // A node's word: its truth in each lane. Where it is false it is so for every setting with the cube's values at the variables of `zero`; where it is true,
 // with those of `one`.
-#[derive(Drop)]
+#[derive(Clone, Copy)]
 pub struct Row {
     pub zero: u64,
     pub one: u64,

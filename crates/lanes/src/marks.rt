@@ -25,7 +25,7 @@ pub fn marked(marks: &[u64], k: usize) -> bool
 }
 
 // What stands below a node of which nothing is known: a quantifier, of which nothing is known either, or no more than these variables.
-#[derive(Drop)]
+#[derive(Clone, Copy)]
 pub struct Reach {
     pub quantified: bool,
     pub variables: u64,

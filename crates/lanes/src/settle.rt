@@ -17,7 +17,7 @@ use words::w64;
 const POSITIONS: u32 = 6;
 
 // What a search found, where `settled`: a word with its reason, or that there is none with the reason.
-#[derive(Drop)]
+#[derive(Clone, Copy)]
 pub struct Settled {
     pub settled: bool,
     pub found: bool,
@@ -34,7 +34,7 @@ const UNSETTLED: Settled = Settled {
 
 // A search on its way: the loose variables that are still to be set, the word so far, and the lanes that are hit, with the reasons: why they are, and why
 // the others are not.
-#[derive(Drop)]
+#[derive(Clone, Copy)]
 struct State {
     rest: u64,
     word: u64,

@@ -54,7 +54,7 @@ fn word_of(kind: Kind) -> u64
 }
 
 // A pass over the frames: whether the sheet is wide, and whether a frame is left.
-#[derive(Drop)]
+#[derive(Clone, Copy)]
 struct Pass {
     wide: bool,
     more: bool,

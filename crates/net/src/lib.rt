@@ -1,4 +1,6 @@
 // A net: a checked sheet as numbers, decoded once a run and lent to every line.
+#![tactic(auto)]
+
 mod decode;
 pub mod links;
 pub mod node;

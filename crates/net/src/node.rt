@@ -25,7 +25,7 @@ pub fn form(net: &[u64]) -> Form
 }
 
 // A node. op: 0 false, 1 true, 2 INPUT left, 3 NOT left, 4 AND, 5 OR, 6 EXISTS mask left, 7 FORALL mask left.
-#[derive(Drop)]
+#[derive(Clone, Copy)]
 pub struct Node {
     pub op: u8,
     pub left: usize,

@@ -1,4 +1,6 @@
 // A sheet's normal sheet: its formula written in one order, each frame once.
+#![tactic(auto)]
+
 mod bytes;
 mod place;
 mod visit;
@@ -17,7 +19,7 @@ use sheet::{Checked, refusal};
 use visit::{NONE, place_frames};
 
 // What writing gives: a refusal's number and place, 0 and 0 for none, and how many bytes were written, 0 if refused.
-#[derive(Drop)]
+#[derive(Clone, Copy)]
 pub struct Written {
     pub number: u8,
     pub place: u16,

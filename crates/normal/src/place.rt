@@ -3,7 +3,7 @@ ghost use Rattle.std.specs.Prelude.{◌≡◌, ◌≤◌, ◌<◌, length};
 ghost use Rattle.normal.specs.Visit.{Found, Puts};
 
 // A frame's number, and how many frames there are with it.
-#[derive(Drop)]
+#[derive(Clone, Copy)]
 pub struct Placed {
     pub number: usize,
     pub count: usize,

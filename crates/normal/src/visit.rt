@@ -72,7 +72,7 @@ fn renamed_word(kind: Kind, numbers: &[u16]) -> u64
 }
 
 // How many frames are written, and how many wait.
-#[derive(Drop)]
+#[derive(Clone, Copy)]
 struct At {
     count: usize,
     depth: usize,

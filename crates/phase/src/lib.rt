@@ -1,4 +1,6 @@
 // The net of a checked sheet as a search wants it, and the phase of each bound variable: which of its values is tried first.
+#![tactic(auto)]
+
 mod choice;
 
 ghost use Rattle.std.specs.Prelude.{◌≡◌};

@@ -97,11 +97,16 @@ unfolding chain_end
 chain-end-last a b [] n = omega arith
 chain-end-last a b (c ∷ bs) n = chain-end-last n c bs (suc n) ∙ omega arith
 
+-- the same, with what the numbers are below before what changes on the way
+chain_plains : (K : ℕ → ℕ → Kind) → ((k a b : ℕ) → a < k → b < k → Plain k (K a b))
+    → (c a : ℕ) (bs : List ℕ) (n : ℕ) → Below c bs → c ≤ n → a < n → Plains n (chain K a bs n)
+unfolding chain
+chain_plains K g c a bs n every-none h i = plains_none
+chain_plains K g c a bs n (every_one {a = b} {l = l} w ws) h i = plains_more (g n a b i (omega arith)) (chain_plains K g c n l (suc n) ws (omega arith) (omega arith))
+
 pub plains_chain : (K : ℕ → ℕ → Kind) → ((k a b : ℕ) → a < k → b < k → Plain k (K a b))
     → (a : ℕ) (bs : List ℕ) (c n : ℕ) → Below c bs → c ≤ n → a < n → Plains n (chain K a bs n)
-unfolding chain
-plains_chain K g a bs c n every-none h i = plains_none
-plains_chain K g a bs c n (every_one {a = b} {l = l} w ws) h i = plains_more (g n a b i (omega arith)) (plains_chain K g n l c (suc n) ws (omega arith) (omega arith))
+plains_chain K g a bs c n = chain_plains K g c a bs n
 
 -- ---- what frames mean, joined
 

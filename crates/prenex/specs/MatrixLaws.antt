@@ -80,7 +80,7 @@ literal-below cs l w =
 
 -- ---- the frames of the matrix name earlier ones
 
-below-map : {n : ℕ} {ls : Clause} (f : Literal → ℕ) → Every (λ (l : Literal). f l < n) ls → Below n (map f ls)
+below-map : {n : ℕ} (f : Literal → ℕ) {ls : Clause} → Every (λ (l : Literal). f l < n) ls → Below n (map f ls)
 below-map f every-none = every-none
 below-map f (every_one w ws) = every_one w (below-map f ws)
 

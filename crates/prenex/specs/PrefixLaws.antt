@@ -175,9 +175,9 @@ pub stands-runs : {κ : ℕ → Kind} {n x : ℕ} {p : Assignment → Bool} {g :
     → Has κ n (run_kinds d rs n) → Stands κ n p g → Stands κ (n + length rs) (over_runs d rs p) (λ k. g k && not (in_runs rs k))
 unfolding run_kinds over_runs in_runs
 stands-runs {g = g} d no_run h s = stands_same (omega arith) (λ σ. refl) (λ k. sym (and-true (g k))) s
-stands-runs {g = g} d (next-run r {rs} i l e a) h s =
+stands-runs {κ = κ} {n = n} {p = p} {g = g} d (next-run r {rs} i l e a) h s =
     stands_same (omega arith) (λ σ. refl) (λ k. without-both (g k) (within r.first r.size k) (in_runs rs k))
-    (stands-runs d a (has_tail h) (stands-next d r.first r.size (has_head h) e s))
+    (stands-runs {n = suc n} d a (has_tail h) (stands-next d r.first r.size (has_head h) e s))
 
 pub run-kinds-length : (d : Bool) (rs : List Run) (n : ℕ) → length (run_kinds d rs n) ≡ length rs
 unfolding run_kinds
@@ -298,7 +298,7 @@ binds-runs {κ} {n} d (next-run r {rs} i l e a) h =
     let is : (v : ℕ) → binds (κ n) v ≡ within r.first r.size v =
     λ v. ap (λ (q : Kind). binds q v) (has_head h) ∙ quantifier-binds d (n - 1) r.first r.size v in
     let here = one-frame κ n (rw (has_head h) (quantifier_ranged d (n - 1) r.first r.size l)) in
-    binds-same (omega arith) (λ v. refl) (binds-join (binds-same refl is here) (binds-runs d a (has_tail h)) (λ v t. ascending_apart r a v t))
+    binds-same (omega arith) (λ v. refl) (binds-join (binds-same refl is here) (binds-runs {n = suc n} d a (has_tail h)) (λ v t. ascending_apart r a v t))
 
 -- ---- atoms that are quantified once
 

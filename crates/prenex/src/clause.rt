@@ -10,14 +10,14 @@ use crate::{frame, literal};
 use words::w32;
 
 // How many frames there are, and how many clauses ended.
-#[derive(Drop)]
+#[derive(Clone, Copy)]
 pub struct Chained {
     pub frames: usize,
     pub ends: usize,
 }
 
 // Where the chain of a clause has come to, and how many frames there are.
-#[derive(Drop)]
+#[derive(Clone, Copy)]
 struct Link {
     at: usize,
     frames: usize,

@@ -1,5 +1,7 @@
 // Prenex questions in clauses, and the frames of a sheet for them. A question stands in two arrays: the clauses as codes of literals,
 // with 0 behind each clause, and the blocks of the prefix as words, outermost first.
+#![tactic(auto)]
+
 mod block;
 mod clause;
 mod frame;

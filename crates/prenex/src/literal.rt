@@ -15,7 +15,7 @@ use words::w32;
 pub const VARIABLES: u8 = 32;
 
 // The variables that occur, and those that occur negated.
-#[derive(Drop)]
+#[derive(Clone, Copy)]
 pub struct Occurring {
     pub all: u32,
     pub negated: u32,

@@ -1,5 +1,7 @@
 // What stands for a quantifier while a candidate is checked, as source 000's proxy: what two tables of records say of it, what a search of its body shows,
 // and what of that is kept. Records speak of the variables of their form.
+#![tactic(auto)]
+
 ghost use Rattle.std.specs.Prelude.{◌≡◌, false, List, ℕ, ◌%◌, ◌<◌, ◌≤◌, length};
 ghost use Rattle.words.specs.Word.{bit};
 ghost use Rattle.formula.specs.Reason.{Explains};

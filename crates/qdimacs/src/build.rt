@@ -10,7 +10,7 @@ ghost use Rattle.qdimacs.specs.MatrixAsked.{Matrix, Judged};
 use dimacs::decode;
 
 // How many frames there are, or that they are too many for a sheet; and whether the matrix is neither always true nor always false.
-#[derive(Drop)]
+#[derive(Clone, Copy)]
 pub struct Built {
     pub large: bool,
     pub frames: usize,

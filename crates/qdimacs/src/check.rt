@@ -5,7 +5,7 @@ ghost use Rattle.qdimacs.specs.Reading.{Headed};
 use dimacs::{atoms, comments, shape};
 
 // Where the fields begin, and the variables of the problem line; 0 variables if the text is not well formed.
-#[derive(Drop)]
+#[derive(Clone, Copy)]
 pub struct Header {
     pub at: usize,
     pub variables: u32,

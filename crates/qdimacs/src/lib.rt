@@ -1,4 +1,6 @@
 // QDIMACS 1.1: prenex questions in clauses, read into sheets.
+#![tactic(auto)]
+
 mod build;
 mod check;
 
@@ -8,7 +10,7 @@ ghost use Rattle.qdimacs.specs.Reading.{Read};
 use sheet::refusal;
 
 // What reading a text gives: a refusal's number or 0, and how many bytes of a sheet it wrote, 0 if refused.
-#[derive(Drop)]
+#[derive(Clone, Copy)]
 pub struct Parsed {
     pub refusal: u8,
     pub length: usize,

@@ -8,7 +8,7 @@ ghost use Rattle.records.specs.Find.{Holding};
 use form::Form;
 
 // A record as the search sees it, in either form.
-#[derive(Drop)]
+#[derive(Clone, Copy)]
 pub struct Record {
     pub frame: u32,
     pub mask: u64,

@@ -1,4 +1,6 @@
 // Tables of records, each a frame, a mask of variables and their values: of three numbers for narrow sheets, of five for wide ones.
+#![tactic(auto)]
+
 mod layout;
 
 ghost use Rattle.std.specs.Prelude.{◌≡◌, ◌<◌, ◌≤◌, length};
@@ -18,21 +20,21 @@ use layout::{part_at, record_at, write};
 const EVERY: u64 = 18446744073709551615;
 
 // How many records of the under table count, and how many of the over table.
-#[derive(Drop)]
+#[derive(Clone, Copy)]
 pub struct Counts {
     pub under: usize,
     pub over: usize,
 }
 
 // Where a search ended: at a record's index, or nowhere.
-#[derive(Drop)]
+#[derive(Clone, Copy)]
 pub enum Found {
     At(usize),
     Nothing,
 }
 
 // In which of two tables a record was found, and at which index.
-#[derive(Drop)]
+#[derive(Clone, Copy)]
 pub enum Hit {
     Under(usize),
     Over(usize),

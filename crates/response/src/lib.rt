@@ -1,4 +1,6 @@
 // What the program prints for a text of either form: the lines of the answers, or one line for a refusal.
+#![tactic(auto)]
+
 ghost use Rattle.form.specs.Form.{form_of};
 ghost use Rattle.sheet.specs.Fields.{sheet_of, narrow, wide};
 ghost use Rattle.response.specs.Printed.{all_lines, refusal_line, printed_run, printed, Prints};

@@ -1,4 +1,6 @@
 // A script run over a sheet of either form.
+#![tactic(auto)]
+
 mod answer;
 
 ghost use Rattle.std.specs.Prelude.{◌≡◌, List, ◌++◌, ℕ, ◌+◌, ◌<◌, ◌≤◌, length, ltb};
@@ -19,7 +21,7 @@ use session::Session;
 use sheet::refusal;
 
 // What a run tells: the refusal's number and place, 0 and 0 for none, and how many records the two tables hold.
-#[derive(Drop)]
+#[derive(Clone, Copy)]
 pub struct Ran {
     pub number: u8,
     pub place: u16,
@@ -70,7 +72,7 @@ fn check(sheet: &[u8], form: Form, script: &[u8], room: usize) -> sheet::Checked
 }
 
 // The four bytes of a line.
-#[derive(Drop)]
+#[derive(Clone, Copy)]
 struct Line {
     k: u8,
     a: u8,
@@ -93,7 +95,7 @@ fn line_at(script: &[u8], i: usize) -> Line
 }
 
 // A turn of the run: the line's number, the number after it, and whether the script has such a line.
-#[derive(Drop)]
+#[derive(Clone, Copy)]
 struct Turn {
     i: usize,
     next: usize,

@@ -19,7 +19,7 @@ use records::Counts;
 use words::w64;
 
 // What a search found: a word with its reason, or that there is none with the reason. And how many records each table then holds.
-#[derive(Drop)]
+#[derive(Clone, Copy)]
 pub struct Outcome {
     pub found: bool,
     pub word: u64,
@@ -28,7 +28,7 @@ pub struct Outcome {
 }
 
 // A node's value under a full candidate and its reason, the chain's head, and how many records each table then holds.
-#[derive(Drop)]
+#[derive(Clone, Copy)]
 struct Valued {
     value: u8,
     reason: u64,

@@ -1,4 +1,6 @@
 // A sheet's frames: what their bytes say, in either form, and whether the sheet keeps the rules.
+#![tactic(auto)]
+
 mod layout;
 pub mod reader;
 pub mod refusal;
@@ -14,7 +16,7 @@ pub use rules::{range_word, size_fault, spare_set};
 pub use scan::{Checked, check, check_frames, check_wide};
 
 // K and A B C of a frame.
-#[derive(Drop)]
+#[derive(Clone, Copy)]
 pub struct Fields {
     pub k: u8,
     pub a: u16,
@@ -23,7 +25,7 @@ pub struct Fields {
 }
 
 // What a frame says. A named frame is a number below the frame's own; a range of variables is its first and how many.
-#[derive(Drop)]
+#[derive(Clone, Copy)]
 pub enum Kind {
     Never,
     Input(u16),
@@ -36,7 +38,7 @@ pub enum Kind {
     Gauge(u16),
 }
 
-#[derive(Drop)]
+#[derive(Clone, Copy)]
 pub struct Frame {
     pub number: usize,
     pub kind: Kind,

@@ -8,7 +8,7 @@ use crate::{Frame, decode};
 
 // A sheet's bytes, the number of the frame that is taken next, and whether the sheet is wide. A proof walks a reader step by step, in which a bool
 // computes and a form would not.
-#[derive(Drop)]
+#[derive(Clone, Copy)]
 pub struct Reader<'a> {
     pub bytes: &'a [u8],
     pub at: usize,
@@ -16,7 +16,7 @@ pub struct Reader<'a> {
 }
 
 // A frame, and the number at which a reader stands after it.
-#[derive(Drop)]
+#[derive(Clone, Copy)]
 struct Taken {
     frame: Frame,
     next: usize,

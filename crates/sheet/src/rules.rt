@@ -201,7 +201,7 @@ fn named_gauge(form: Form, kind: Kind) -> u64
 }
 
 // The variables that earlier frames bind, name by an INPUT, and name as gauges.
-#[derive(Drop)]
+#[derive(Clone, Copy)]
 pub struct Seen {
     pub bound: u64,
     pub inputs: u64,

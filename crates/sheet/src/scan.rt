@@ -16,7 +16,7 @@ use form::Form;
 use words::w64;
 
 // The refusal's number and place, 0 and 0 for none; for none also the free variables of the last frame, and the variables that are gauges.
-#[derive(Drop)]
+#[derive(Clone, Copy)]
 pub struct Checked {
     pub number: u8,
     pub place: u16,
@@ -64,7 +64,7 @@ fn pass(frame: Frame, form: Form, words: &mut [u64], seen: Seen) -> Seen
 
 // A pass over the frames: whether the sheet is wide, whether a frame is left to judge, what is seen so far, and the refusal's number and place,
 // 0 and 0 for none. Where it stands is the reader's to know.
-#[derive(Drop)]
+#[derive(Clone, Copy)]
 struct Scan {
     wide: bool,
     more: bool,

@@ -16,7 +16,7 @@ use search::Outcome;
 
 // Can the loose variables be assigned so that the target's truth is that of: for every setting of `all` some setting of `some` makes the last frame true?
 // Where both are empty, that is the last frame's own.
-#[derive(Drop)]
+#[derive(Clone, Copy)]
 pub struct Question {
     pub target: u8,
     pub loose: u64,

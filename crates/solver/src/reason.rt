@@ -18,7 +18,7 @@ use records::Counts;
 use words::w64;
 
 // What a reason is for: the truth v of what a question with these `all` and `some` asks.
-#[derive(Drop)]
+#[derive(Clone, Copy)]
 struct Aim {
     v: u8,
     all: u64,
@@ -26,7 +26,7 @@ struct Aim {
 }
 
 // What is left of a reason's start, and a reason inside it that a proof has shown.
-#[derive(Drop)]
+#[derive(Clone, Copy)]
 struct Left {
     cube: Cube64,
     reason: u64,

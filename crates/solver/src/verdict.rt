@@ -21,7 +21,7 @@ use search::Outcome;
 use words::w64;
 
 // A verdict and its word, and how many records each table then holds.
-#[derive(Drop)]
+#[derive(Clone, Copy)]
 pub struct Answered {
     pub holds: bool,
     pub word: u64,

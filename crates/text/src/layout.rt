@@ -13,7 +13,7 @@ pub const SCRIPT_FRAMES: usize = 1000;
 pub const SCRIPT_FRAME_BYTES: usize = 4;
 
 // Where an accepted text has its parts, or why it is refused.
-#[derive(Drop)]
+#[derive(Clone, Copy)]
 pub enum Layout {
     Refused(u8),
     // How many lines the sheet has, where the script's lines start, and how many they are.

@@ -1,4 +1,6 @@
 // The text form: a sheet and a script read from lines of hexadecimal digits, and answers and frames written as such lines.
+#![tactic(auto)]
+
 mod frame;
 mod hex;
 mod layout;
@@ -14,7 +16,7 @@ use layout::Layout;
 use sheet::refusal;
 
 // What reading a text gives: whether it is wide, a refusal's number or 0, and how many bytes of a sheet and of a script it wrote, 0 if refused.
-#[derive(Drop)]
+#[derive(Clone, Copy)]
 pub struct Parsed {
     pub wide: bool,
     pub refusal: u8,

@@ -6,7 +6,7 @@ ghost use Rattle.text.specs.Line.{head, ending, digits, line_size, LinesAt};
 use crate::hex::digit_value;
 
 // Lines in a row: how many, and where they end.
-#[derive(Drop)]
+#[derive(Clone, Copy)]
 pub struct Counted {
     pub count: usize,
     pub end: usize,

@@ -1,4 +1,6 @@
 // The program: a text of either form from standard input, and the lines of its sheet's normal sheet to standard output.
+#![tactic(auto)]
+
 ghost use Rattle.std.specs.Prelude.{◌≤◌, length};
 ghost use Rattle.form.specs.Form.{form_of};
 ghost use Rattle.sheet.specs.Fields.{sheet_of, narrow, wide};

@@ -1,4 +1,6 @@
 // The program: a text with a narrow sheet from standard input, and the same text with its sheet widened to standard output.
+#![tactic(auto)]
+
 ghost use Rattle.std.specs.Prelude.{List, ℕ, ◌≤◌, length};
 ghost use Rattle.to_wide.specs.Converted.{refusal_output, converted_sheet, converted, Prints};
 
@@ -17,7 +19,7 @@ const SHEET_LINES_BYTES: usize = 3000;
 const SCRIPT_LINES_BYTES: usize = 9000;
 
 // What is printed of two buffers: so many bytes of each, with the empty line between them unless they are a refusal's.
-#[derive(Drop)]
+#[derive(Clone, Copy)]
 struct Printed {
     refused: bool,
     first: usize,

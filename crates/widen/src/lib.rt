@@ -1,4 +1,6 @@
 // A narrow sheet as a wide one, frame by frame: each field keeps its number.
+#![tactic(auto)]
+
 ghost use Rattle.std.specs.Prelude.{◌≡◌, [], ◌∷◌, ◌+◌, ◌*◌, ◌<◌, ◌≤◌, length};
 ghost use Rattle.std.proofs.lemmas.List.Edits.{sets};
 ghost use Rattle.form.specs.Form.{frame_start};
@@ -9,7 +11,7 @@ use form::Form;
 use sheet::refusal;
 
 // What widening gives: a refusal's number and place, 0 and 0 for none, and how many bytes were written, 0 if refused.
-#[derive(Drop)]
+#[derive(Clone, Copy)]
 pub struct Widened {
     pub number: u8,
     pub place: u16,
