@@ -1,0 +1,15 @@
+-- `absorb::absorb_in` meets its contract. Assumes nothing.
+use Rattle.absorb.specs.SheetLaws.{kept-none, kept_then, kept-room}
+use Rattle.absorb.specs.Sheet.{Kept}
+use Rattle.net.specs.Net.{frees}
+use mathlib.Core.Path.{◌∙◌}
+use Prim.Native.Nat.{◌-◌}
+use borrow.Author.Rules.{rules}
+use native.Mathlib.Omega.{arith}
+use Rattle.absorb.proofs.absorb_in.Given as goal
+
+abbrev pub invariant-loop-i : goal.invariant-loop-i
+invariant-loop-i l = Kept l.initial.net l.initial.slots l.initial.sides l.initial.frees l.initial.words l.initial.marks l.net l.slots l.sides l.frees l.words l.marks
+
+abbrev pub decreases-loop-i : goal.decreases-loop-i
+decreases-loop-i l = 16 - l.i

@@ -1,0 +1,14 @@
+-- `absorb::propose::grow` meets its contract. Assumes nothing.
+use native.Mathlib.Omega.{arith}
+use Prim.Native.Nat.{◌+◌, ◌≤◌}
+use mathlib.Core.Path.{◌≡◌, refl, ◌∙◌}
+use lib.ListN.{length}
+use borrow.Author.Rules.{rules}
+use Rattle.net.specs.Net.{frees}
+use Rattle.absorb.proofs.propose.grow.Given as goal
+
+abbrev pub invariant-loop-k : goal.invariant-loop-k
+invariant-loop-k l = (l.k ≤ l.g + 1) × (length l.slots ≡ length l.initial.slots) × (length l.sides ≡ length l.initial.sides)
+
+abbrev pub decreases-loop-k : goal.decreases-loop-k
+decreases-loop-k l = l.k

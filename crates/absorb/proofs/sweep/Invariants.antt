@@ -1,0 +1,13 @@
+-- `absorb::sweep` meets its contract. Assumes nothing.
+use Rattle.absorb.specs.SheetLaws.{kept-none, kept_then, kept-count, kept-room}
+use Rattle.absorb.specs.Sheet.{Kept}
+use Rattle.net.specs.Net.{frees}
+use Prim.Native.Nat.{◌-◌}
+use native.Mathlib.Omega.{arith}
+use Rattle.absorb.proofs.sweep.Given as goal
+
+abbrev pub invariant-loop-k : goal.invariant-loop-k
+invariant-loop-k l = Kept l.initial.net l.initial.slots l.initial.sides l.initial.frees l.initial.words l.initial.marks l.net l.slots l.sides l.frees l.words l.marks
+
+abbrev pub decreases-loop-k : goal.decreases-loop-k
+decreases-loop-k l = l.n - l.k

@@ -1,0 +1,49 @@
+-- `dimacs::atoms::mentions` meets its contract. The invariant: the answer is that of the fields which are still to be read. Assumes nothing.
+use borrow.Author.Rules.{rules}
+use Prim.Native.Nat.{◌-◌, ◌≤◌}
+use native.Mathlib.Omega.{arith}
+use mathlib.Core.Logic.{⊎_elim}
+use mathlib.Core.Path.{◌≡◌, refl, sym, ◌∙◌}
+use lib.ListN.{length, drop}
+use Rattle.dimacs.specs.Token.{tokens}
+use Rattle.dimacs.specs.TokenLaws.{tokens-taken, tokens_none}
+use Rattle.dimacs.specs.Row.{mentions}
+use Rattle.dimacs.specs.RowSteps.{mentions-none, mentions-other_row, mentions-other-variable, mentions-here}
+use Rattle.dimacs.proofs.atoms.mentions.Goals as goal
+
+pub loop-at-init : goal.loop-at-init
+loop-at-init c =
+    (c.requires, refl)
+
+pub next-taken-requires : goal.next-taken-requires
+next-taken-requires c =
+    c.loop-at-test.true
+
+pub returns-then-variable_of-v : goal.returns-then-variable_of-v
+returns-then-variable_of-v c =
+    sym
+    (c.loop-at.invariant.1
+    ∙ mentions-here
+    (tokens-taken c.next-taken.ensures)
+    c.if-row-kind.true
+    c.variable_of.ensures
+    c.if-variable_of-v.true)
+
+pub loop-at-smaller : goal.loop-at-smaller
+loop-at-smaller c =
+    omega (arith, c.loop-at-test.true, c.next-taken.ensures.onward, c.next-taken.ensures.within)
+
+pub loop-at-preserved : goal.loop-at-preserved
+loop-at-preserved c =
+    let s = tokens-taken c.next-taken.ensures in (
+      c.next-taken.ensures.within,
+      c.loop-at.invariant.1
+          ∙ ⊎_elim
+          (λ w. mentions-other-variable s c.row_after-row.ensures c.args.v w.0.taken w.1.ensures w.2.left)
+          (λ w. mentions-other_row s c.row_after-row.ensures c.args.v w.left)
+          c.if-row-kind.branch,
+    )
+
+pub returns : goal.returns
+returns c =
+    sym (c.loop-at.invariant.1 ∙ rw (tokens_none c.args.text.now c.loop-at.at c.loop-at-test.false) (mentions-none c.args.kind c.args.v c.loop-at.row))

@@ -1,0 +1,26 @@
+-- `dimacs::shape::run` meets its contract. The invariant: taking the fields that are left gives what taking all of them gives. Assumes nothing.
+use borrow.Author.Rules.{rules}
+use Prim.Native.Nat.{◌-◌, ◌≤◌}
+use native.Mathlib.Omega.{arith}
+use mathlib.Core.Path.{◌≡◌, refl, sym, ◌∙◌}
+use lib.ListN.{length, drop}
+use Rattle.dimacs.specs.Token.{tokens}
+use Rattle.dimacs.specs.Shape as Machine
+use Rattle.dimacs.specs.ShapeSteps.{run-taken, run_none}
+use Rattle.dimacs.proofs.shape.run.Goals as goal
+
+pub loop-at-init : goal.loop-at-init
+loop-at-init c =
+    (c.requires, refl)
+
+pub loop-at-smaller : goal.loop-at-smaller
+loop-at-smaller c =
+    omega (arith, c.next-taken.ensures.onward, c.next-taken.ensures.within)
+
+pub loop-at-preserved : goal.loop-at-preserved
+loop-at-preserved c =
+    (c.next-taken.ensures.within, run-taken c.loop-at.state c.next-taken.ensures c.step-state.ensures ∙ c.loop-at.invariant.1)
+
+pub returns : goal.returns
+returns c =
+    sym (run_none c.args.text.now c.loop-at.at c.loop-at.state (omega (arith, c.loop-at-test.false))) ∙ c.loop-at.invariant.1

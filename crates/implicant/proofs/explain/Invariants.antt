@@ -1,0 +1,14 @@
+-- `implicant::explain` meets its contract: the cells before k are right. Assumes nothing.
+use Prim.Native.Nat.{◌+◌, ◌-◌}
+use native.Mathlib.Omega.{arith}
+use mathlib.Core.Path.{◌≡◌, refl, ◌∙◌}
+use lib.ListN.{length}
+use Rattle.implicant.specs.Implicant.{Shows}
+use Rattle.implicant.specs.ImplicantLaws.{shows_none, shows_at}
+use Rattle.implicant.proofs.explain.Given as goal
+
+abbrev pub invariant-loop-k : goal.invariant-loop-k
+invariant-loop-k l = Shows l.net l.cube.mask l.cube.values l.cells l.k × (length l.cells ≡ length l.initial.cells)
+
+abbrev pub decreases-loop-k : goal.decreases-loop-k
+decreases-loop-k l = l.a + 1 - l.k

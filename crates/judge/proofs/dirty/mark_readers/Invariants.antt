@@ -1,0 +1,13 @@
+-- `judge::dirty::mark_readers` meets its contract: it ends because the set of variables falls, as a word. Assumes nothing.
+use native.Mathlib.Omega.{arith}
+use mathlib.Core.Path.{◌≡◌, refl, ◌∙◌}
+use lib.ListN.{length}
+use borrow.Author.Rules.{rules}
+use Rattle.words.specs.Mask.{top_less}
+use Rattle.judge.proofs.dirty.mark_readers.Given as goal
+
+abbrev pub invariant-loop-left : goal.invariant-loop-left
+invariant-loop-left l = length l.marks ≡ length l.initial.marks
+
+abbrev pub decreases-loop-left : goal.decreases-loop-left
+decreases-loop-left l = l.left

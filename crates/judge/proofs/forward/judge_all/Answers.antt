@@ -1,0 +1,44 @@
+-- `judge::forward::judge_all` meets its contract: what is known stays right as each node is judged in turn. Assumes nothing.
+use Prim.Native.Nat.{◌+◌, ◌-◌}
+use native.Mathlib.Omega.{arith}
+use mathlib.Core.Logic.{⊎_elim}
+use mathlib.Core.Path.{◌≡◌, refl, ◌∙◌}
+use lib.ListN.{length}
+use Rattle.judge.specs.Judge.{Judging}
+use Rattle.judge.specs.JudgeLaws.{judging_none, judging_then}
+use Rattle.judge.proofs.forward.judge_all.Goals as goal
+
+pub loop-k-init : goal.loop-k-init
+loop-k-init c =
+    (judging_none c.requires.2, refl)
+
+pub vacant-requires : goal.vacant-requires
+vacant-requires c =
+    omega (arith, c.requires.1, c.loop-k.invariant.0.judged.long)
+
+pub judge_vacant-at-requires : goal.judge_vacant-at-requires
+judge_vacant-at-requires c =
+    (c.requires.0, omega (arith, c.requires.1, c.loop-k-test.true), c.loop-k.invariant.0.judged, c.vacant.ensures c.if-vacant.true)
+
+pub overflow_add-k : goal.overflow_add-k
+overflow_add-k c =
+    omega (arith, c.requires.1, c.requires.0.few, c.loop-k-test.true)
+
+pub loop-k-smaller : goal.loop-k-smaller
+loop-k-smaller c =
+    omega (arith, c.loop-k-test.true)
+
+pub loop-k-preserved : goal.loop-k-preserved
+loop-k-preserved c =
+    ⊎_elim
+    (λ w. rw (w.5, w.6) (judging_then c.loop-k.invariant.0 w.2.ensures, w.3.given ∙ c.loop-k.invariant.1))
+    (λ w. rw (w.1, w.2) c.loop-k.invariant)
+    c.if-vacant.branch
+
+pub shape_of-cells : goal.shape_of-cells
+shape_of-cells c =
+    c.loop-k.invariant.1
+
+pub returns : goal.returns
+returns c =
+    c.loop-k.invariant.0

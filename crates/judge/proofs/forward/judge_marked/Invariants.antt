@@ -1,0 +1,15 @@
+-- `judge::forward::judge_marked` meets its contract: what is known stays right whichever nodes are judged. Assumes nothing.
+use Prim.Native.Nat.{◌+◌, ◌-◌}
+use native.Mathlib.Omega.{arith}
+use mathlib.Core.Path.{◌≡◌, refl, ◌∙◌}
+use lib.ListN.{length}
+use Rattle.judge.specs.Judge.{Judging}
+use Rattle.judge.specs.JudgeLaws.{judging_none, judging_then}
+use Rattle.judge.proofs.forward.judge_marked.Given as goal
+
+abbrev pub invariant-loop-k : goal.invariant-loop-k
+invariant-loop-k l =
+    Judging l.net l.cube.mask l.cube.values l.initial.cells l.head l.cells l.at × (length l.cells ≡ length l.initial.cells) × (length l.marks ≡ length l.initial.marks)
+
+abbrev pub decreases-loop-k : goal.decreases-loop-k
+decreases-loop-k l = l.a + 1 - l.k

@@ -1,0 +1,44 @@
+-- `lanes::fill::fill` meets its contract: each marked node in turn. Assumes nothing.
+use Prim.Native.Nat.{◌+◌, ◌-◌}
+use native.Mathlib.Omega.{arith}
+use mathlib.Core.Logic.{⊎_elim}
+use mathlib.Core.Path.{◌≡◌, refl, sym, ◌∙◌}
+use lib.ListN.{length}
+use Rattle.lanes.specs.FillLaws.{filled_none, filled_next, filled_skip, filled_ripe}
+use Rattle.lanes.specs.Fill.{Filled}
+use Rattle.lanes.proofs.fill.fill.Goals as goal
+
+pub loop-k-init : goal.loop-k-init
+loop-k-init c =
+    (filled_none refl, refl)
+
+pub marked-requires : goal.marked-requires
+marked-requires c =
+    omega (arith, c.requires.3, c.loop-k-test.true)
+
+pub next-requires : goal.next-requires
+next-requires c =
+    (c.requires.0, omega (arith, c.requires.1, c.loop-k-test.true), omega (arith, c.requires.2, c.loop-k-test.true, c.loop-k.invariant.1), c.requires.4, filled_ripe c.loop-k.invariant.0 c.requires.0 c.requires.5 c.loop-k-test.true (sym c.marked.ensures ∙ c.if-marked.true))
+
+pub overflow_add-k : goal.overflow_add-k
+overflow_add-k c =
+    omega (arith, c.requires.1, c.requires.0.few, c.loop-k-test.true)
+
+pub loop-k-smaller : goal.loop-k-smaller
+loop-k-smaller c =
+    omega (arith, c.loop-k-test.true)
+
+pub loop-k-preserved : goal.loop-k-preserved
+loop-k-preserved c =
+    ⊎_elim
+    (λ w. rw w.5 (filled_next c.loop-k.invariant.0 (omega arith) w.2.ensures, w.3.given ∙ c.loop-k.invariant.1))
+    (λ w. rw w.1 (filled_skip c.loop-k.invariant.0 (omega arith) (sym c.marked.ensures ∙ w.0.left), c.loop-k.invariant.1))
+    c.if-marked.branch
+
+pub shape_of-rows : goal.shape_of-rows
+shape_of-rows c =
+    c.loop-k.invariant.1
+
+pub returns : goal.returns
+returns c =
+    (c.loop-k.invariant.0.each _ (omega (arith, c.loop-k-test.false)) c.requires.5.top, c.loop-k.invariant.1)

@@ -1,0 +1,15 @@
+-- `lanes::fill::fill` meets its contract: each marked node in turn. Assumes nothing.
+use Prim.Native.Nat.{◌+◌, ◌-◌}
+use native.Mathlib.Omega.{arith}
+use mathlib.Core.Logic.{⊎_elim}
+use mathlib.Core.Path.{◌≡◌, refl, sym, ◌∙◌}
+use lib.ListN.{length}
+use Rattle.lanes.specs.FillLaws.{filled_none, filled_next, filled_skip, filled_ripe}
+use Rattle.lanes.specs.Fill.{Filled}
+use Rattle.lanes.proofs.fill.fill.Given as goal
+
+abbrev pub invariant-loop-k : goal.invariant-loop-k
+invariant-loop-k l = Filled l.net l.places l.cube.values l.marks l.rows l.k × (length l.rows ≡ length l.initial.rows)
+
+abbrev pub decreases-loop-k : goal.decreases-loop-k
+decreases-loop-k l = l.a + 1 - l.k

@@ -1,0 +1,7 @@
+-- `lanes::fill::flip` meets its contract. Assumes nothing.
+use Rattle.lanes.specs.LanesLaws.{flipped}
+use Rattle.lanes.proofs.fill.flip.Goals as goal
+
+pub returns : goal.returns
+returns c =
+    flipped c.ranges.t.fits

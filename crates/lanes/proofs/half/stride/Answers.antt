@@ -1,0 +1,10 @@
+-- `lanes::half::stride` meets its contract. Assumes nothing.
+use native.Mathlib.Omega.{arith}
+use borrow.Author.Rules.{rules}
+use Rattle.words.specs.Mask.{one_shl}
+use Rattle.lanes.specs.PatternLaws.{stride_lt}
+use Rattle.lanes.proofs.half.stride.Goals as goal
+
+pub returns : goal.returns
+returns c =
+    let e = one_shl 8 c.args.p (omega (arith, c.requires)) in (e, rw e (stride_lt c.args.p c.requires))

@@ -1,0 +1,12 @@
+-- `net::links::link` meets its contract. The invariant: so far the net has other links only. Assumes nothing.
+use Prim.Native.Nat.{◌-◌}
+use native.Mathlib.Omega.{arith}
+use Rattle.net.specs.Link.{Linked}
+use Rattle.net.specs.LinkLaws.{linked_refl, linked_trans, linked_ground}
+use Rattle.net.proofs.links.link.Given as goal
+
+abbrev pub invariant-loop-k : goal.invariant-loop-k
+invariant-loop-k l = Linked l.initial.net l.net
+
+abbrev pub decreases-loop-k : goal.decreases-loop-k
+decreases-loop-k l = l.n - l.k

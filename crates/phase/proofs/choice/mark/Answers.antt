@@ -1,0 +1,10 @@
+-- `phase::choice::mark` meets its contract: the word is that of a variable. Assumes nothing.
+use native.Mathlib.Omega.{arith}
+use mathlib.Core.Path.{refl}
+use Rattle.net.specs.LinkLaws.{linked_reader}
+use borrow.Author.Rules.{rules}
+use Rattle.phase.proofs.choice.mark.Goals as goal
+
+pub returns : goal.returns
+returns c =
+    linked_reader _ _ (omega arith) (omega (arith, c.requires.0)) refl

@@ -1,0 +1,9 @@
+-- `prenex::literal::variable` meets its contract. Assumes nothing.
+use borrow.Author.Rules.{rules}
+use mathlib.Core.Path.{sym}
+use Rattle.prenex.specs.LiteralLaws.{variable-is}
+use Rattle.prenex.proofs.literal.variable.Goals as goal
+
+pub returns : goal.returns
+returns c =
+    sym (variable-is c.args.code)

@@ -1,0 +1,45 @@
+-- `prenex::literal::write_inputs` meets its contract. The invariant: the stores that are left give what all stores give. Assumes nothing.
+use borrow.Author.Rules.{rules}
+use Prim.Native.Nat.{◌-◌, ◌≤◌}
+use native.Mathlib.Omega.{arith}
+use mathlib.Core.Logic.{⊎_elim}
+use mathlib.Core.Path.{sym, ◌∙◌}
+use Rattle.words.specs.Word.{bit}
+use Rattle.sheet.specs.declared.Kind.TheVariants.{Input}
+use Rattle.prenex.specs.StoreLaws.{input-bytes}
+use Rattle.prenex.specs.LiteralLaws.{Stored, stored-start, stored_has, stored_lacks, stored-end}
+use Rattle.prenex.proofs.literal.write_inputs.Goals as goal
+
+pub loop-x-init : goal.loop-x-init
+loop-x-init c =
+    (omega arith, stored-start (bit c.args.all) Input 0 c.args.out.now)
+
+pub put-requires : goal.put-requires
+put-requires c = (
+  c.loop-x.invariant.1.same ∙ c.requires,
+  λ _. (omega (arith, c.loop-x-test.true), omega arith, omega arith),
+)
+
+pub overflow_add-n : goal.overflow_add-n
+overflow_add-n c =
+    record { fits = omega (arith, c.loop-x.invariant.0, c.loop-x.invariant.1.few) }
+
+pub loop-x-preserved : goal.loop-x-preserved
+loop-x-preserved c = (
+  omega (arith, c.loop-x-test.true),
+  ⊎_elim
+      (λ w. stored_has (bit c.args.all) Input 0 c.args.out.now c.loop-x.x c.loop-x.n c.loop-x.out c.loop-x.invariant.1 c.loop-x-test.true _ _
+      (sym c.has.ensures ∙ w.0.taken) w.6 (rw input-bytes (w.5 ∙ w.2.ensures)))
+      (λ w. stored_lacks (bit c.args.all) Input 0 c.args.out.now c.loop-x.x c.loop-x.n c.loop-x.out c.loop-x.invariant.1 c.loop-x-test.true _ _
+      (sym c.has.ensures ∙ w.0.left) w.2 w.1)
+      c.if-has.branch,
+)
+
+pub shape_of-out : goal.shape_of-out
+shape_of-out c =
+    c.loop-x.invariant.1.same
+
+pub returns : goal.returns
+returns c =
+    let e = stored-end (bit c.args.all) Input 0 c.args.out.now c.loop-x.x c.loop-x.n c.loop-x.out c.loop-x.invariant.1 c.loop-x-test.false in
+    (omega (arith, e.0), omega (arith, c.loop-x.invariant.0, c.loop-x.invariant.1.few), e.1)

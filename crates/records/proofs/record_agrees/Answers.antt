@@ -1,0 +1,15 @@
+-- `records::record_agrees` meets its contract: values inside the mask are the cube's own (`made_same`), others agree with nothing. Assumes nothing.
+use mathlib.Core.Path.{sym, ◌∙◌}
+use borrow.Author.Rules.{rules}
+use Rattle.words.specs.Mask.{inside-sub, agree-outside}
+use Rattle.cube.specs.Cube.{made_same}
+use Rattle.records.proofs.record_agrees.Goals as goal
+
+pub returns-then-inside : goal.returns-then-inside
+returns-then-inside c =
+    let within = inside-sub _ _ (sym c.inside.ensures ∙ c.if-inside.true) in
+    rw (c.of.ensures.mask, made_same c.of.ensures within) at c.agrees.ensures
+
+pub returns : goal.returns
+returns c =
+    sym (agree-outside _ _ _ (sym c.inside.ensures ∙ c.if-inside.false))

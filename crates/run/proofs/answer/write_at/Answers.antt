@@ -1,0 +1,19 @@
+-- `run::answer::write_at` meets its contract: each form by its own leaf.
+use borrow.Author.Rules.{rules}
+use Rattle.run.proofs.answer.write_at.Goals as goal
+
+pub write_wide-requires : goal.write_wide-requires
+write_wide-requires c =
+    rw c.if-wide.true at c.requires
+
+pub returns-then-wide : goal.returns-then-wide
+returns-then-wide c =
+    rw c.if-wide.true c.write_wide.ensures
+
+pub write_narrow-requires : goal.write_narrow-requires
+write_narrow-requires c =
+    rw c.if-wide.false at c.requires
+
+pub returns : goal.returns
+returns c =
+    rw c.if-wide.false c.write_narrow.ensures

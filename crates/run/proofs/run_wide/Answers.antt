@@ -1,0 +1,12 @@
+-- `run::run_wide` meets its contract.
+use borrow.Author.Rules.{rules}
+use mathlib.Core.Path.{refl}
+use Rattle.run.proofs.run_wide.Goals as goal
+
+pub run_form-requires : goal.run_form-requires
+run_form-requires c =
+    record { is = refl }
+
+pub returns : goal.returns
+returns c =
+    c.run_form.ensures

@@ -1,0 +1,7 @@
+-- `sheet::rules::bad_input` meets its contract.
+use borrow.Author.Rules.{rules}
+use Rattle.sheet.proofs.rules.bad_input.Goals as goal
+
+pub returns : goal.returns
+returns c =
+    simp (c.bound_of.ensures, c.long.ensures)

@@ -1,0 +1,7 @@
+-- `sheet::rules::fault_at` meets its contract.
+use borrow.Author.Rules.{rules}
+use Rattle.sheet.proofs.rules.fault_at.Goals as goal
+
+pub returns : goal.returns
+returns c =
+    simp (c.frame_fault.ensures, c.fields_at-f.ensures)

@@ -1,0 +1,31 @@
+-- `solver::question::solve_in` meets its contract: the search of the quantifiers that the question put behind the frames. Assumes nothing.
+use Rattle.net.specs.OwnLaws.{stacked_back}
+use lib.ListN.{length}
+use mathlib.Core.Path.{ap}
+use Rattle.solver.specs.QuestionLaws.{asked-room, asked_ground, asked-blank, asked_checked, asked-lent, asked_binds, asked-body, asked_solved, asked_grown}
+use borrow.Author.Rules.{rules}
+use Rattle.solver.proofs.question.solve_in.Goals as goal
+
+pub node_at-node-requires : goal.node_at-node-requires
+node_at-node-requires c =
+    asked-room c.requires.asking.1 (c.pose-own.ensures c.requires.asking.0 c.requires.asking.1.masks)
+
+pub judge-requires : goal.judge-requires
+judge-requires c =
+    let P = (c.pose-own.ensures c.requires.asking.0 c.requires.asking.1.masks) in (asked_ground c.requires.asking.1 P, asked-body c.requires.asking.1 P c.node_at-node.ensures.is, asked-blank c.requires.asking.1 P c.requires.scratch)
+
+pub choose-out-requires : goal.choose-out-requires
+choose-out-requires c =
+    let P = (c.pose-own.ensures c.requires.asking.0 c.requires.asking.1.masks) in ((c.node_at-node.ensures.is, asked_binds c.requires.asking.1 P c.node_at-node.ensures.is), (asked_checked c.requires.asking.1 P c.judge.ensures.judged, asked-lent c.requires.asking.1 P c.requires.scratch))
+
+pub forget-requires : goal.forget-requires
+forget-requires c =
+    asked_ground c.requires.asking.1 (c.pose-own.ensures c.requires.asking.0 c.requires.asking.1.masks)
+
+pub shape_of-net : goal.shape_of-net
+shape_of-net c =
+    ap length (stacked_back (c.pose-own.ensures c.requires.asking.0 c.requires.asking.1.masks).stacked c.forget.ensures)
+
+pub returns : goal.returns
+returns c =
+    let P = (c.pose-own.ensures c.requires.asking.0 c.requires.asking.1.masks) in (asked_solved c.requires.asking.1 P c.node_at-node.ensures.is c.choose-out.result.found c.choose-out.result.word c.choose-out.result.reason c.choose-out.ensures.solved.0, (asked_grown c.requires.asking.1 P c.choose-out.ensures.growing, stacked_back P.stacked c.forget.ensures))

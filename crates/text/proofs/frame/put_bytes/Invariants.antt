@@ -1,0 +1,21 @@
+-- `text::frame::put_bytes` meets its contract. The invariant: the stores that are left give what all stores give. Assumes nothing.
+use borrow.Author.Rules.{rules}
+use Prim.Native.Nat.{suc, ◌+◌, ◌-◌, ◌*◌, ◌≤◌}
+use native.Mathlib.Omega.{arith}
+use native.Mathlib.Numerals.{unary_clauses}
+use mathlib.Core.Bool.{true}
+use mathlib.Core.Path.{◌≡◌, refl, sym, ◌∙◌}
+use lib.ListN.{length, drop, length-set}
+use lib.Seq.{sets, drop-drop}
+use Rattle.text.specs.Line.{digits, bytes}
+use Rattle.text.specs.LineLaws.{digits_two, bytes-put, bytes-none}
+use Rattle.text.proofs.frame.put_bytes.Given as goal
+
+abbrev pub invariant-loop-i : goal.invariant-loop-i
+invariant-loop-i l =
+    (l.i ≤ l.count) × (l.at ≡ l.from + 2 * l.i) × (l.to ≡ l.place + l.i) × (length l.out ≡ length l.initial.out)
+    × (digits (2 * (l.count - l.i)) (drop l.at l.text) ≡ true)
+    × (sets l.initial.out l.place (bytes l.count (drop l.from l.text)) ≡ sets l.out l.to (bytes (l.count - l.i) (drop l.at l.text)))
+
+abbrev pub decreases-loop-i : goal.decreases-loop-i
+decreases-loop-i l = l.count - l.i

@@ -1,0 +1,14 @@
+-- `words::w64::put` meets its contract: the two branches are the definition's. Assumes nothing.
+use Rattle.words.specs.Mask.{put}
+use borrow.Author.Rules.{rules}
+use Rattle.words.proofs.w64.put.Goals as goal
+
+pub returns-then-b : goal.returns-then-b
+unfolding put
+returns-then-b c =
+    simp (c.one-p.ensures, c.if-b.true)
+
+pub returns-else-b : goal.returns-else-b
+unfolding put
+returns-else-b c =
+    simp (c.without.ensures, c.one-p.ensures, c.if-b.false)
