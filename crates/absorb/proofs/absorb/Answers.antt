@@ -2,7 +2,6 @@
 use native.Mathlib.Omega.{arith}
 use Rattle.form.specs.declared.Form.TheVariants.{Narrow, Wide}
 use mathlib.Core.Path.{sym, ◌∙◌}
-use borrow.Author.Rules.{rules}
 use Rattle.absorb.specs.SheetLaws.{form_long}
 use Rattle.absorb.proofs.absorb.Goals as goal
 

@@ -1,10 +1,6 @@
 -- `absorb::absorb_in` meets its contract. Assumes nothing.
 use Rattle.absorb.specs.SheetLaws.{kept-none, kept_then, kept-room}
-use Rattle.absorb.specs.Sheet.{Kept}
-use Rattle.net.specs.Net.{frees}
 use mathlib.Core.Path.{◌∙◌}
-use Prim.Native.Nat.{◌-◌}
-use borrow.Author.Rules.{rules}
 use native.Mathlib.Omega.{arith}
 use Rattle.absorb.proofs.absorb_in.Goals as goal
 
@@ -18,7 +14,7 @@ promising-requires c =
 
 pub shape_of-frees-then-not-promising : goal.shape_of-frees-then-not-promising
 shape_of-frees-then-not-promising c =
-    c.deep-word.auto.frees
+    c.deep-word.auto.words
 
 pub returns-then-not-promising : goal.returns-then-not-promising
 returns-then-not-promising c =
@@ -30,7 +26,7 @@ loop-i-init c =
 
 pub sweep-requires : goal.sweep-requires
 sweep-requires c =
-    ((c.requires.0.0, c.loop-i.invariant.net_of c.requires.0.0 c.requires.0.1), kept-room c.loop-i.invariant c.requires.0.1 (record { at_slots = c.requires.1.at_slots; at_sides = c.requires.1.at_sides; at-frees = omega (arith, c.requires.1.at-frees, c.deep-word.auto.frees); at_words = c.requires.1.at_words; at_marks = c.requires.1.at_marks }))
+    ((c.requires.0.0, c.loop-i.invariant.net_of c.requires.0.0 c.requires.0.1), kept-room c.loop-i.invariant c.requires.0.1 (record { at_slots = c.requires.1.at_slots; at_sides = c.requires.1.at_sides; at-frees = omega (arith, c.requires.1.at-frees, c.deep-word.auto.words); at_words = c.requires.1.at_words; at_marks = c.requires.1.at_marks }))
 
 pub shape_of-net-then-not-sweep : goal.shape_of-net-then-not-sweep
 shape_of-net-then-not-sweep c =
@@ -46,7 +42,7 @@ shape_of-sides-then-not-sweep c =
 
 pub shape_of-frees-then-not-sweep : goal.shape_of-frees-then-not-sweep
 shape_of-frees-then-not-sweep c =
-    c.sweep.auto.frees ∙ c.loop-i.invariant.same-frees ∙ c.deep-word.auto.frees
+    c.sweep.auto.frees ∙ c.loop-i.invariant.same-frees ∙ c.deep-word.auto.words
 
 pub shape_of-words-then-not-sweep : goal.shape_of-words-then-not-sweep
 shape_of-words-then-not-sweep c =
@@ -86,7 +82,7 @@ shape_of-sides c =
 
 pub shape_of-frees : goal.shape_of-frees
 shape_of-frees c =
-    c.loop-i.invariant.same-frees ∙ c.deep-word.auto.frees
+    c.loop-i.invariant.same-frees ∙ c.deep-word.auto.words
 
 pub shape_of-words : goal.shape_of-words
 shape_of-words c =

@@ -1,11 +1,6 @@
 -- `absorb::absorb_in` meets its contract. Assumes nothing.
-use Rattle.absorb.specs.SheetLaws.{kept-none, kept_then, kept-room}
 use Rattle.absorb.specs.Sheet.{Kept}
-use Rattle.net.specs.Net.{frees}
-use mathlib.Core.Path.{◌∙◌}
 use Prim.Native.Nat.{◌-◌}
-use borrow.Author.Rules.{rules}
-use native.Mathlib.Omega.{arith}
 use Rattle.absorb.proofs.absorb_in.Given as goal
 
 abbrev pub invariant-loop-i : goal.invariant-loop-i

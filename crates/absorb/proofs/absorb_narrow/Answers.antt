@@ -1,7 +1,6 @@
 -- `absorb::absorb_narrow` meets its contract. Assumes nothing.
 use native.Mathlib.Omega.{arith}
 use mathlib.Core.Path.{refl}
-use borrow.Author.Rules.{rules}
 use Rattle.absorb.specs.SheetLaws.{blank-room}
 use Rattle.absorb.proofs.absorb_narrow.Goals as goal
 

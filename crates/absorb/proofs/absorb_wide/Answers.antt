@@ -1,7 +1,6 @@
 -- `absorb::absorb_wide` meets its contract. Assumes nothing.
 use native.Mathlib.Omega.{arith}
 use mathlib.Core.Path.{refl}
-use borrow.Author.Rules.{rules}
 use Rattle.absorb.specs.SheetLaws.{blank-room}
 use Rattle.absorb.proofs.absorb_wide.Goals as goal
 

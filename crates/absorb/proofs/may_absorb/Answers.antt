@@ -2,10 +2,7 @@
 use native.Mathlib.Omega.{arith}
 use mathlib.Core.Path.{refl, sym, ◌∙◌}
 use mathlib.Core.Bool.{false}
-use borrow.Author.Rules.{rules}
-use borrow.Author.Tests.{not-false}
 use Rattle.words.specs.Logic.{clash}
-use Rattle.net.specs.Net.{frees}
 use Rattle.net.specs.Layout.{binds-below}
 use Rattle.absorb.specs.ConeLaws.{free-at}
 use Rattle.absorb.specs.SheetLaws.{small_form, small_low, absorbable}
@@ -52,8 +49,8 @@ free_words-requires c =
     (c.requires.0.1.ground, omega (arith, c.if-q-frames.false, c.if-g-q.false, c.frames.ensures), omega (arith, c.if-q-frames.false, c.if-g-q.false, c.frames.ensures, c.requires.1.at-frees))
 
 pub turns-requires : goal.turns-requires
-turns-requires c = (
-  (
+turns-requires c = record {
+  ground = (
     c.requires.0.1.ground,
     c.free_words.ensures,
     small_low c.args.net.now c.form.ensures c.variables.ensures (omega (arith, c.if-y-variables.false)),
@@ -64,8 +61,8 @@ turns-requires c = (
       c.frames.ensures,
     ),
     c.requires.1.at_sides,
-  ),
-  (
+  );
+  g_in_bounds = (
     omega (arith, c.if-q-frames.false, c.if-g-q.false, c.frames.ensures, c.requires.1.at_slots),
     omega (
       arith,
@@ -73,15 +70,15 @@ turns-requires c = (
       c.if-g-q.false,
       c.frames.ensures,
       c.requires.1.at-frees,
-      c.free_words.auto.frees,
+      c.free_words.auto.words,
     ),
     omega (arith, c.if-q-frames.false, c.if-g-q.false, c.frames.ensures, c.requires.1.at_words),
-  ),
-)
+  );
+}
 
 pub shape_of-frees-then-not-turns : goal.shape_of-frees-then-not-turns
 shape_of-frees-then-not-turns c =
-    c.free_words.auto.frees
+    c.free_words.auto.words
 
 pub shape_of-words-then-not-turns : goal.shape_of-words-then-not-turns
 shape_of-words-then-not-turns c =
@@ -97,11 +94,11 @@ offset_bounds-frees-g c =
 
 pub bounds-frees-g : goal.bounds-frees-g
 bounds-frees-g c =
-    omega (arith, c.if-q-frames.false, c.if-g-q.false, c.frames.ensures, c.requires.1.at-frees, c.free_words.auto.frees)
+    omega (arith, c.if-q-frames.false, c.if-g-q.false, c.frames.ensures, c.requires.1.at-frees, c.free_words.auto.words)
 
 pub inside-requires : goal.inside-requires
-inside-requires c = (
-  (
+inside-requires c = record {
+  ground = (
     c.requires.0.1.ground,
     omega (arith, binds-below c.requires.0.1.ground c.node_at-binder.ensures.is (omega (arith, c.if-binder-lt6.false)), c.if-q-frames.false, c.frames.ensures),
     small_low c.args.net.now c.form.ensures c.variables.ensures (omega (arith, c.if-y-variables.false)),
@@ -112,13 +109,13 @@ inside-requires c = (
       c.frames.ensures,
       c.requires.1.at_marks,
     ),
-  ),
-  free-at c.requires.0.1.ground c.free_words.ensures c.args.g (omega arith),
-)
+  );
+  by_index = free-at c.requires.0.1.ground c.free_words.ensures c.args.g (omega arith);
+}
 
 pub shape_of-frees-then-not-inside : goal.shape_of-frees-then-not-inside
 shape_of-frees-then-not-inside c =
-    c.free_words.auto.frees
+    c.free_words.auto.words
 
 pub shape_of-words-then-not-inside : goal.shape_of-words-then-not-inside
 shape_of-words-then-not-inside c =
@@ -138,7 +135,7 @@ outside-requires c =
 
 pub shape_of-frees-then-not-outside : goal.shape_of-frees-then-not-outside
 shape_of-frees-then-not-outside c =
-    c.free_words.auto.frees
+    c.free_words.auto.words
 
 pub shape_of-words-then-not-outside : goal.shape_of-words-then-not-outside
 shape_of-words-then-not-outside c =
@@ -154,7 +151,7 @@ returns-then-not-outside c =
 
 pub shape_of-frees : goal.shape_of-frees
 shape_of-frees c =
-    c.free_words.auto.frees
+    c.free_words.auto.words
 
 pub shape_of-words : goal.shape_of-words
 shape_of-words c =

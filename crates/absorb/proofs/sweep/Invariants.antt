@@ -1,9 +1,6 @@
 -- `absorb::sweep` meets its contract. Assumes nothing.
-use Rattle.absorb.specs.SheetLaws.{kept-none, kept_then, kept-count, kept-room}
 use Rattle.absorb.specs.Sheet.{Kept}
-use Rattle.net.specs.Net.{frees}
 use Prim.Native.Nat.{◌-◌}
-use native.Mathlib.Omega.{arith}
 use Rattle.absorb.proofs.sweep.Given as goal
 
 abbrev pub invariant-loop-k : goal.invariant-loop-k

@@ -1,6 +1,5 @@
 -- `absorb::try_absorb` meets its contract. Assumes nothing.
 use mathlib.Core.Path.{refl}
-use borrow.Author.Tests.{not-false}
 use Rattle.absorb.proofs.try_absorb.Goals as goal
 
 pub may_absorb-requires : goal.may_absorb-requires

@@ -1,8 +1,6 @@
 -- `absorb::try_node` meets its contract. Assumes nothing.
-use Rattle.net.specs.Net.{frees}
 use mathlib.Core.Path.{◌∙◌}
 use native.Mathlib.Omega.{arith}
-use borrow.Author.Rules.{rules}
 use Rattle.absorb.proofs.try_node.Goals as goal
 
 pub try_word-tried-requires : goal.try_word-tried-requires

@@ -2,9 +2,6 @@
 use native.Mathlib.Omega.{arith}
 use Rattle.words.specs.Mask.{top_less}
 use mathlib.Core.Path.{◌∙◌}
-use borrow.Author.Rules.{rules}
-use Rattle.net.specs.Net.{frees}
-use Rattle.absorb.specs.Sheet.{Kept}
 use Rattle.absorb.specs.SheetLaws.{kept-none, kept_then, kept-count, kept-room}
 use Rattle.absorb.proofs.try_word.Goals as goal
 

@@ -1,11 +1,5 @@
 -- `absorb::try_word` meets its contract. Assumes nothing.
-use native.Mathlib.Omega.{arith}
-use Rattle.words.specs.Mask.{top_less}
-use mathlib.Core.Path.{◌∙◌}
-use borrow.Author.Rules.{rules}
-use Rattle.net.specs.Net.{frees}
 use Rattle.absorb.specs.Sheet.{Kept}
-use Rattle.absorb.specs.SheetLaws.{kept-none, kept_then, kept-count, kept-room}
 use Rattle.absorb.proofs.try_word.Given as goal
 
 abbrev pub invariant-loop-rest : goal.invariant-loop-rest

@@ -1,5 +1,4 @@
 -- `run::check` meets its contract.
-use borrow.Author.Rules.{rules}
 use Rattle.sheet.specs.Fields.{sheet_of}
 use Rattle.certificate.specs.Checking.{size_checks, size_none, script_checks, frames_checks}
 use Rattle.run.proofs.check.Goals as goal

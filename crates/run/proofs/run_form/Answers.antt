@@ -1,5 +1,4 @@
 -- `run::run_form` meets its contract.
-use borrow.Author.Rules.{rules}
 use Rattle.form.specs.Form.{form_of}
 use Rattle.sheet.specs.Fields.{sheet_of}
 use Rattle.net.specs.Sheet.{checked_net}

@@ -1,5 +1,4 @@
 -- `run::run_wide` meets its contract.
-use borrow.Author.Rules.{rules}
 use mathlib.Core.Path.{refl}
 use Rattle.run.proofs.run_wide.Goals as goal
 

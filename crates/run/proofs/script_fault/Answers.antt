@@ -1,5 +1,4 @@
 -- `run::script_fault` meets its contract.
-use borrow.Author.Rules.{rules}
 use borrow.Author.Tests.{eq-eqb, ne_eqb, lt-ltb, le-ltb}
 use Rattle.sheet.specs.Cause.{first}
 use Rattle.model.specs.Model.{lines}

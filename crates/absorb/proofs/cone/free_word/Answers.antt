@@ -1,6 +1,5 @@
 -- `absorb::cone::free_word` meets its contract. Assumes nothing.
 use native.Mathlib.Omega.{arith}
-use borrow.Author.Rules.{rules}
 use Rattle.net.specs.Net.{node_fixed, node_reads, node_flips, node_joins, node_binds}
 use Rattle.absorb.specs.Cone.{free_word}
 use Rattle.absorb.proofs.cone.free_word.Goals as goal

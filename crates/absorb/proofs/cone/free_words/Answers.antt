@@ -1,9 +1,7 @@
 -- `absorb::cone::free_words` meets its contract. Assumes nothing.
 use native.Mathlib.Omega.{arith}
-use Prim.Native.Nat.{◌-◌, ◌≤◌}
-use mathlib.Core.Path.{◌≡◌, refl, ◌∙◌}
-use lib.ListN.{length, length-set}
-use Rattle.absorb.specs.Cone.{FreeTable}
+use mathlib.Core.Path.{refl, ◌∙◌}
+use lib.ListN.{length-set}
 use Rattle.absorb.specs.ConeLaws.{near_at, free-none, free-next}
 use Rattle.absorb.proofs.cone.free_words.Goals as goal
 

@@ -1,10 +1,8 @@
 -- `absorb::cone::free_words` meets its contract. Assumes nothing.
-use native.Mathlib.Omega.{arith}
 use Prim.Native.Nat.{◌-◌, ◌≤◌}
-use mathlib.Core.Path.{◌≡◌, refl, ◌∙◌}
-use lib.ListN.{length, length-set}
+use mathlib.Core.Path.{◌≡◌}
+use lib.ListN.{length}
 use Rattle.absorb.specs.Cone.{FreeTable}
-use Rattle.absorb.specs.ConeLaws.{near_at, free-none, free-next}
 use Rattle.absorb.proofs.cone.free_words.Given as goal
 
 abbrev pub invariant-loop-k : goal.invariant-loop-k

@@ -1,6 +1,5 @@
 -- `absorb::cone::lane_at` meets its contract. Assumes nothing.
 use native.Mathlib.Omega.{arith}
-use borrow.Author.Rules.{rules}
 use borrow.Author.Tests.{lt-ltb, le-ltb}
 use Rattle.absorb.specs.Cone.{lane_word}
 use Rattle.absorb.proofs.cone.lane_at.Goals as goal

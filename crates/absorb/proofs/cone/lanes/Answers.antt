@@ -1,12 +1,9 @@
 -- `absorb::cone::lanes` meets its contract. Assumes nothing.
 use native.Mathlib.Omega.{arith}
-use Prim.Native.Nat.{◌-◌, ◌≤◌}
-use mathlib.Core.Path.{◌≡◌, refl, ◌∙◌}
+use mathlib.Core.Path.{refl, ◌∙◌}
 use mathlib.Core.Bool.{false}
-use lib.ListN.{length, length-set}
-use borrow.Author.Tests.{not-false}
+use lib.ListN.{length-set}
 use Rattle.words.specs.Logic.{clash}
-use Rattle.absorb.specs.Cone.{LaneTable}
 use Rattle.absorb.specs.ConeLaws.{near_at, lane-none, lane-next}
 use Rattle.absorb.proofs.cone.lanes.Goals as goal
 

@@ -1,13 +1,9 @@
 -- `absorb::cone::sides_ok` meets its contract. Assumes nothing.
 use native.Mathlib.Omega.{arith}
-use Prim.Native.Nat.{◌-◌, ◌≤◌}
 use mathlib.Core.Path.{refl}
 use mathlib.Core.Bool.{false}
-use borrow.Author.Tests.{not-false}
 use borrow.Author.Count.{below_more}
 use Rattle.words.specs.Logic.{clash}
-use Rattle.net.specs.Net.{frees}
-use Rattle.absorb.specs.Cone.{SidesOk}
 use Rattle.absorb.proofs.cone.sides_ok.Goals as goal
 
 pub loop-i-init : goal.loop-i-init

@@ -1,9 +1,7 @@
 -- `absorb::exclusive::deep` meets its contract. Assumes nothing.
-use mathlib.Core.Path.{◌≡◌, refl, ◌∙◌}
+use mathlib.Core.Path.{◌≡◌}
 use lib.ListN.{length}
 use Prim.Native.Nat.{◌-◌}
-use borrow.Author.Rules.{rules}
-use native.Mathlib.Omega.{arith}
 use Rattle.absorb.proofs.exclusive.deep.Given as goal
 
 abbrev pub invariant-loop-k : goal.invariant-loop-k

@@ -1,5 +1,4 @@
 -- `absorb::exclusive::promising` meets its contract. Assumes nothing.
-use borrow.Author.Rules.{rules}
 use native.Mathlib.Omega.{arith}
 use Rattle.absorb.proofs.exclusive.promising.Goals as goal
 

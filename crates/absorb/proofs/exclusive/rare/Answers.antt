@@ -1,5 +1,4 @@
 -- `absorb::exclusive::rare` meets its contract. Assumes nothing.
-use borrow.Author.Rules.{rules}
 use native.Mathlib.Omega.{arith}
 use Rattle.absorb.proofs.exclusive.rare.Goals as goal
 

@@ -1,7 +1,5 @@
 -- `absorb::propose::binder` meets its contract. Assumes nothing.
-use native.Mathlib.Omega.{arith}
 use Prim.Native.Nat.{◌≤◌}
-use borrow.Author.Rules.{rules}
 use Rattle.net.specs.Layout.{frames_of}
 use Rattle.absorb.proofs.propose.binder.Given as goal
 

@@ -1,10 +1,6 @@
 -- `absorb::propose::grow` meets its contract. Assumes nothing.
 use native.Mathlib.Omega.{arith}
-use Prim.Native.Nat.{◌+◌, ◌≤◌}
-use mathlib.Core.Path.{◌≡◌, refl, ◌∙◌}
-use lib.ListN.{length}
-use borrow.Author.Rules.{rules}
-use Rattle.net.specs.Net.{frees}
+use mathlib.Core.Path.{refl, ◌∙◌}
 use Rattle.absorb.proofs.propose.grow.Goals as goal
 
 pub seed-requires : goal.seed-requires

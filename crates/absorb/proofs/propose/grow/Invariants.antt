@@ -1,10 +1,7 @@
 -- `absorb::propose::grow` meets its contract. Assumes nothing.
-use native.Mathlib.Omega.{arith}
 use Prim.Native.Nat.{◌+◌, ◌≤◌}
-use mathlib.Core.Path.{◌≡◌, refl, ◌∙◌}
+use mathlib.Core.Path.{◌≡◌}
 use lib.ListN.{length}
-use borrow.Author.Rules.{rules}
-use Rattle.net.specs.Net.{frees}
 use Rattle.absorb.proofs.propose.grow.Given as goal
 
 abbrev pub invariant-loop-k : goal.invariant-loop-k

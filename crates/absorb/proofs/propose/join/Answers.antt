@@ -1,6 +1,5 @@
 -- `absorb::propose::join` meets its contract. Assumes nothing.
 use native.Mathlib.Omega.{arith}
-use borrow.Author.Rules.{rules}
 use Rattle.absorb.proofs.propose.join.Goals as goal
 
 pub bounds-slots-a : goal.bounds-slots-a

@@ -1,9 +1,7 @@
 -- `absorb::propose::note_side` meets its contract. Assumes nothing.
-use native.Mathlib.Omega.{arith}
 use Prim.Native.Nat.{◌-◌}
-use mathlib.Core.Path.{◌≡◌, refl, ◌∙◌}
-use lib.ListN.{length, length-set}
-use borrow.Author.Rules.{rules}
+use mathlib.Core.Path.{◌≡◌}
+use lib.ListN.{length}
 use Rattle.absorb.proofs.propose.note_side.Given as goal
 
 abbrev pub invariant-loop-i : goal.invariant-loop-i

@@ -1,6 +1,5 @@
 -- `absorb::propose::refresh` meets its contract. Assumes nothing.
 use native.Mathlib.Omega.{arith}
-use borrow.Author.Rules.{rules}
 use Rattle.absorb.specs.ConeLaws.{near_at}
 use Rattle.absorb.proofs.propose.refresh.Goals as goal
 

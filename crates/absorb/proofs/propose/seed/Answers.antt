@@ -1,6 +1,5 @@
 -- `absorb::propose::seed` meets its contract. Assumes nothing.
 use native.Mathlib.Omega.{arith}
-use borrow.Author.Rules.{rules}
 use Rattle.absorb.proofs.propose.seed.Goals as goal
 
 pub wipe-requires : goal.wipe-requires

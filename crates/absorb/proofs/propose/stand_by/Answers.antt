@@ -1,6 +1,5 @@
 -- `absorb::propose::stand_by` meets its contract. Assumes nothing.
 use native.Mathlib.Omega.{arith}
-use borrow.Author.Rules.{rules}
 use Rattle.absorb.proofs.propose.stand_by.Goals as goal
 
 pub note_side-requires : goal.note_side-requires

@@ -1,6 +1,5 @@
 -- `absorb::propose::wait` meets its contract. Assumes nothing.
 use native.Mathlib.Omega.{arith}
-use borrow.Author.Rules.{rules}
 use Rattle.absorb.proofs.propose.wait.Goals as goal
 
 pub bounds-slots-a : goal.bounds-slots-a

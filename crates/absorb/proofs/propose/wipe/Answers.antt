@@ -1,9 +1,7 @@
 -- `absorb::propose::wipe` meets its contract. Assumes nothing.
 use native.Mathlib.Omega.{arith}
-use Prim.Native.Nat.{◌-◌}
-use mathlib.Core.Path.{◌≡◌, refl, ◌∙◌}
-use lib.ListN.{length, length-set}
-use borrow.Author.Rules.{rules}
+use mathlib.Core.Path.{refl, ◌∙◌}
+use lib.ListN.{length-set}
 use Rattle.absorb.proofs.propose.wipe.Goals as goal
 
 pub loop-k-init : goal.loop-k-init

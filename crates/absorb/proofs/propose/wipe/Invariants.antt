@@ -1,9 +1,7 @@
 -- `absorb::propose::wipe` meets its contract. Assumes nothing.
-use native.Mathlib.Omega.{arith}
 use Prim.Native.Nat.{◌-◌}
-use mathlib.Core.Path.{◌≡◌, refl, ◌∙◌}
-use lib.ListN.{length, length-set}
-use borrow.Author.Rules.{rules}
+use mathlib.Core.Path.{◌≡◌}
+use lib.ListN.{length}
 use Rattle.absorb.proofs.propose.wipe.Given as goal
 
 abbrev pub invariant-loop-k : goal.invariant-loop-k

@@ -1,15 +1,9 @@
 -- `absorb::region::inside` meets its contract. Assumes nothing.
 use native.Mathlib.Omega.{arith}
-use Prim.Native.Nat.{◌+◌, ◌-◌, ◌≤◌}
-use mathlib.Core.Path.{◌≡◌, refl, ◌∙◌}
+use mathlib.Core.Path.{refl, ◌∙◌}
 use mathlib.Core.Bool.{false}
-use lib.ListN.{length, length-set}
-use borrow.Author.Rules.{rules}
+use lib.ListN.{length-set}
 use Rattle.words.specs.Logic.{clash}
-use Rattle.net.specs.Net.{frees}
-use Rattle.net.specs.Layout.{packed}
-use Rattle.absorb.specs.Absorb.{Spares}
-use Rattle.absorb.specs.Marks.{Marking}
 use Rattle.absorb.specs.MarksLaws.{marking_none, marking_next, marks_inside}
 use Rattle.absorb.proofs.region.inside.Goals as goal
 
@@ -18,8 +12,10 @@ loop-k-init c =
     (omega arith, marking_none _, refl)
 
 pub spoils-requires : goal.spoils-requires
-spoils-requires c =
-    ((c.requires.ground.0, omega (arith, c.requires.ground.1), c.requires.ground.2, omega (arith, c.requires.ground.3, c.loop-k.invariant.2)), c.requires.by_index)
+spoils-requires c = record {
+  ground = (c.requires.ground.0, omega (arith, c.requires.ground.1), c.requires.ground.2, omega (arith, c.requires.ground.3, c.loop-k.invariant.2));
+  by_index = c.requires.by_index;
+}
 
 pub bounds-marks-k : goal.bounds-marks-k
 bounds-marks-k c =

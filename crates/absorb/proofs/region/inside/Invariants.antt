@@ -1,16 +1,11 @@
 -- `absorb::region::inside` meets its contract. Assumes nothing.
-use native.Mathlib.Omega.{arith}
 use Prim.Native.Nat.{◌+◌, ◌-◌, ◌≤◌}
-use mathlib.Core.Path.{◌≡◌, refl, ◌∙◌}
-use mathlib.Core.Bool.{false}
-use lib.ListN.{length, length-set}
-use borrow.Author.Rules.{rules}
-use Rattle.words.specs.Logic.{clash}
+use mathlib.Core.Path.{◌≡◌}
+use lib.ListN.{length}
 use Rattle.net.specs.Net.{frees}
 use Rattle.net.specs.Layout.{packed}
 use Rattle.absorb.specs.Absorb.{Spares}
 use Rattle.absorb.specs.Marks.{Marking}
-use Rattle.absorb.specs.MarksLaws.{marking_none, marking_next, marks_inside}
 use Rattle.absorb.proofs.region.inside.Given as goal
 
 abbrev pub invariant-loop-k : goal.invariant-loop-k

@@ -1,15 +1,11 @@
 -- `absorb::region::outside` meets its contract. Assumes nothing.
-use native.Mathlib.Omega.{arith}
 use Prim.Native.Nat.{◌-◌, ◌≤◌}
-use mathlib.Core.Path.{◌≡◌, refl, ◌∙◌}
+use mathlib.Core.Path.{◌≡◌}
 use mathlib.Core.Bool.{false}
-use lib.ListN.{length, length-set}
+use lib.ListN.{length}
 use lib.Dec.{eqb}
-use borrow.Author.Rules.{rules}
-use Rattle.words.specs.Logic.{clash}
 use Rattle.net.specs.Layout.{packed}
 use Rattle.absorb.specs.Marks.{Marking}
-use Rattle.absorb.specs.MarksLaws.{marking_none, marking_next, marks_outside}
 use Rattle.absorb.proofs.region.outside.Given as goal
 
 abbrev pub invariant-loop-k : goal.invariant-loop-k

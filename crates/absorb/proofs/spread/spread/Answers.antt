@@ -1,7 +1,5 @@
 -- `absorb::spread::spread` meets its contract. Assumes nothing.
 use native.Mathlib.Omega.{arith}
-use Prim.Native.Nat.{◌-◌, ◌≤◌}
-use Rattle.absorb.specs.Spread.{Spreading}
 use Rattle.absorb.specs.SpreadLaws.{noted_ground, spreading_none, spreading_next}
 use Rattle.absorb.proofs.spread.spread.Goals as goal
 

@@ -1,8 +1,6 @@
 -- `absorb::spread::spread` meets its contract. Assumes nothing.
-use native.Mathlib.Omega.{arith}
 use Prim.Native.Nat.{◌-◌, ◌≤◌}
 use Rattle.absorb.specs.Spread.{Spreading}
-use Rattle.absorb.specs.SpreadLaws.{noted_ground, spreading_none, spreading_next}
 use Rattle.absorb.proofs.spread.spread.Given as goal
 
 abbrev pub invariant-loop-k : goal.invariant-loop-k

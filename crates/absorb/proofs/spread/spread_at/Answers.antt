@@ -1,8 +1,6 @@
 -- `absorb::spread::spread_at` meets its contract. Assumes nothing.
 use native.Mathlib.Omega.{arith}
 use mathlib.Core.Path.{refl, sym, ◌∙◌}
-use borrow.Author.Rules.{rules}
-use borrow.Author.Tests.{not-true}
 use Rattle.words.specs.Logic.{clash}
 use Rattle.net.specs.Layout.{changed}
 use Rattle.absorb.specs.SpreadLaws.{room-more, noted-as-is, noted_more}

@@ -1,12 +1,12 @@
 -- `judge::forward::judge_all` meets its contract: what is known stays right as each node is judged in turn. Assumes nothing.
 use Prim.Native.Nat.{◌+◌, ◌-◌}
 use native.Mathlib.Omega.{arith}
-use mathlib.Core.Logic.{⊎_elim}
 use mathlib.Core.Path.{◌≡◌, refl, ◌∙◌}
 use lib.ListN.{length}
 use Rattle.judge.specs.Judge.{Judging}
 use Rattle.judge.specs.JudgeLaws.{judging_none, judging_then}
 use Rattle.judge.proofs.forward.judge_all.Goals as goal
+use Rattle.judge.proofs.forward.judge_all.Goals.{then-vacant, else-vacant}
 
 pub loop-k-init : goal.loop-k-init
 loop-k-init c =
@@ -30,14 +30,10 @@ loop-k-smaller c =
 
 pub loop-k-preserved : goal.loop-k-preserved
 loop-k-preserved c =
-    ⊎_elim
-    (λ w. rw (w.5, w.6) (judging_then c.loop-k.invariant.0 w.2.ensures, w.3.given ∙ c.loop-k.invariant.1))
-    (λ w. rw (w.1, w.2) c.loop-k.invariant)
-    c.if-vacant.branch
-
-pub shape_of-cells : goal.shape_of-cells
-shape_of-cells c =
-    c.loop-k.invariant.1
+    elim c.if-vacant.branch [
+      | then-vacant w ↦ rw (w.at-is, w.cells-is) (judging_then c.loop-k.invariant.0 w.judge_vacant-at.ensures, w.judge_vacant-at.auto.cells ∙ c.loop-k.invariant.1)
+      | else-vacant w ↦ rw (w.at-is, w.cells-is) c.loop-k.invariant
+    ]
 
 pub returns : goal.returns
 returns c =

@@ -1,12 +1,12 @@
 -- `lanes::fill::fill` meets its contract: each marked node in turn. Assumes nothing.
 use Prim.Native.Nat.{◌+◌, ◌-◌}
 use native.Mathlib.Omega.{arith}
-use mathlib.Core.Logic.{⊎_elim}
 use mathlib.Core.Path.{◌≡◌, refl, sym, ◌∙◌}
 use lib.ListN.{length}
 use Rattle.lanes.specs.FillLaws.{filled_none, filled_next, filled_skip, filled_ripe}
 use Rattle.lanes.specs.Fill.{Filled}
 use Rattle.lanes.proofs.fill.fill.Goals as goal
+use Rattle.lanes.proofs.fill.fill.Goals.{then-marked, else-marked}
 
 pub loop-k-init : goal.loop-k-init
 loop-k-init c =
@@ -30,14 +30,10 @@ loop-k-smaller c =
 
 pub loop-k-preserved : goal.loop-k-preserved
 loop-k-preserved c =
-    ⊎_elim
-    (λ w. rw w.5 (filled_next c.loop-k.invariant.0 (omega arith) w.2.ensures, w.3.given ∙ c.loop-k.invariant.1))
-    (λ w. rw w.1 (filled_skip c.loop-k.invariant.0 (omega arith) (sym c.marked.ensures ∙ w.0.left), c.loop-k.invariant.1))
-    c.if-marked.branch
-
-pub shape_of-rows : goal.shape_of-rows
-shape_of-rows c =
-    c.loop-k.invariant.1
+    elim c.if-marked.branch [
+      | then-marked w ↦ rw w.rows-is (filled_next c.loop-k.invariant.0 (omega arith) w.next.ensures, w.next.auto.rows ∙ c.loop-k.invariant.1)
+      | else-marked w ↦ rw w.rows-is (filled_skip c.loop-k.invariant.0 (omega arith) (sym c.marked.ensures ∙ w.if-marked.false), c.loop-k.invariant.1)
+    ]
 
 pub returns : goal.returns
 returns c =

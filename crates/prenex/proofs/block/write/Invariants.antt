@@ -1,8 +1,5 @@
 -- `prenex::block::write` meets its contract. The invariant: what stands are the quantifiers of the blocks from `left` on. Assumes nothing.
-use borrow.Author.Rules.{rules}
-use native.Mathlib.Omega.{arith}
-use mathlib.Core.Path.{refl, ◌∙◌}
-use Rattle.prenex.specs.BlockLaws.{Blocks, blocks_start, blocks_more, blocks_end, blocks-length}
+use Rattle.prenex.specs.BlockLaws.{Blocks}
 use Rattle.prenex.proofs.block.write.Given as goal
 
 abbrev pub invariant-loop-left : goal.invariant-loop-left

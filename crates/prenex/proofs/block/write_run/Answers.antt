@@ -1,5 +1,4 @@
 -- `prenex::block::write_run` meets its contract. Assumes nothing.
-use borrow.Author.Rules.{rules}
 use Rattle.prenex.specs.BlockLaws.{run_none, run-one}
 use Rattle.prenex.proofs.block.write_run.Goals as goal
 

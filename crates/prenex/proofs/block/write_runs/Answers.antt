@@ -1,12 +1,10 @@
 -- `prenex::block::write_runs` meets its contract. The invariant: the stores that are left give what all stores give. Assumes nothing.
-use borrow.Author.Rules.{rules}
-use Prim.Native.Nat.{◌-◌, ◌≤◌}
 use native.Mathlib.Omega.{arith}
-use mathlib.Core.Logic.{⊎_elim}
 use mathlib.Core.Path.{sym, ◌∙◌}
 use Rattle.words.specs.Word.{bit}
-use Rattle.prenex.specs.BlockLaws.{Runs, runs-start, runs_has, runs_lacks, runs-end}
+use Rattle.prenex.specs.BlockLaws.{runs-start, runs_has, runs_lacks, runs-end}
 use Rattle.prenex.proofs.block.write_runs.Goals as goal
+use Rattle.prenex.proofs.block.write_runs.Goals.{then-has, else-has}
 
 pub loop-x-init : goal.loop-x-init
 loop-x-init c =
@@ -23,13 +21,13 @@ write_run-to-requires c =
 pub loop-x-preserved : goal.loop-x-preserved
 loop-x-preserved c = (
   omega (arith, c.loop-x-test.true),
-  ⊎_elim
-      (λ w. runs_has c.args.exists (bit c.args.word) c.args.n c.args.out.now c.loop-x.x c.loop-x.c c.loop-x.to c.loop-x.out c.loop-x.invariant.1 c.loop-x-test.true _ _ _
-      (sym c.has.ensures ∙ w.0.taken) w.3 w.2 w.1)
-      (λ w. let r = w.2.ensures in
-      runs_lacks c.args.exists (bit c.args.word) c.args.n c.args.out.now c.loop-x.x c.loop-x.c c.loop-x.to c.loop-x.out c.loop-x.invariant.1 c.loop-x-test.true _ _ _
-      (sym c.has.ensures ∙ w.0.left) w.7 (w.6 ∙ r.0) (rw w.6 r.1) (w.5 ∙ r.2))
-      c.if-has.branch,
+  elim c.if-has.branch [
+    | then-has w ↦ runs_has c.args.exists (bit c.args.word) c.args.n c.args.out.now c.loop-x.x c.loop-x.c c.loop-x.to c.loop-x.out c.loop-x.invariant.1 c.loop-x-test.true _ _ _
+        (sym c.has.ensures ∙ w.if-has.true) w.c-is w.to-is w.out-is
+    | else-has w ↦ let r = w.write_run-to.ensures in
+        runs_lacks c.args.exists (bit c.args.word) c.args.n c.args.out.now c.loop-x.x c.loop-x.c c.loop-x.to c.loop-x.out c.loop-x.invariant.1 c.loop-x-test.true _ _ _
+        (sym c.has.ensures ∙ w.if-has.false) w.c-is (w.to-is ∙ r.0) (rw w.to-is r.1) (w.out-is ∙ r.2)
+  ],
 )
 
 pub write_run-requires : goal.write_run-requires
@@ -38,7 +36,7 @@ write_run-requires c =
 
 pub shape_of-out : goal.shape_of-out
 shape_of-out c =
-    c.write_run.auto.out.1.1.1.0 ∙ c.loop-x.invariant.1.same
+    c.write_run.auto.out ∙ c.loop-x.invariant.1.same
 
 pub returns : goal.returns
 returns c =

@@ -1,11 +1,7 @@
 -- `prenex::block::write_runs` meets its contract. The invariant: the stores that are left give what all stores give. Assumes nothing.
-use borrow.Author.Rules.{rules}
 use Prim.Native.Nat.{◌-◌, ◌≤◌}
-use native.Mathlib.Omega.{arith}
-use mathlib.Core.Logic.{⊎_elim}
-use mathlib.Core.Path.{sym, ◌∙◌}
 use Rattle.words.specs.Word.{bit}
-use Rattle.prenex.specs.BlockLaws.{Runs, runs-start, runs_has, runs_lacks, runs-end}
+use Rattle.prenex.specs.BlockLaws.{Runs}
 use Rattle.prenex.proofs.block.write_runs.Given as goal
 
 abbrev pub invariant-loop-x : goal.invariant-loop-x

@@ -1,14 +1,12 @@
 -- `prenex::clause::all_opposed` meets its contract. The invariant: the answer is that of the codes which are left, with the literals seen. Assumes nothing.
-use borrow.Author.Rules.{rules}
-use Prim.Native.Nat.{ℕ, ◌-◌, ◌^◌, ◌≤◌}
+use Prim.Native.Nat.{ℕ, ◌^◌}
 use native.Mathlib.Omega.{arith}
-use mathlib.Core.Logic.{⊎_elim}
-use mathlib.Core.Path.{◌≡◌, sym, ap, ◌∙◌}
-use lib.ListN.{length, drop}
-use Rattle.prenex.specs.Code.{clauses_of, all_opposed}
+use mathlib.Core.Path.{sym, ap, ◌∙◌}
+use Rattle.prenex.specs.Code.{clauses_of}
 use Rattle.prenex.specs.LiteralLaws.{variable-below}
-use Rattle.prenex.specs.OpposedLaws.{all_opposed_with, all_with, codes_over, not-opposed, is-opposed, sees_negative, sees_positive}
+use Rattle.prenex.specs.OpposedLaws.{all_with, codes_over, not-opposed, is-opposed, sees_negative, sees_positive}
 use Rattle.prenex.proofs.clause.all_opposed.Goals as goal
+use Rattle.prenex.proofs.clause.all_opposed.Goals.{then-code-eq0+else-positive-negative-eq0, else-code-eq0+then-negative, else-code-eq0+else-negative}
 
 pub loop-i-init : goal.loop-i-init
 loop-i-init c =
@@ -32,22 +30,22 @@ negative-requires c =
 
 pub loop-i-preserved : goal.loop-i-preserved
 loop-i-preserved c =
-    ⊎_elim
-    (λ w. (omega (arith, c.loop-i-test.true), rw (w.2, w.3) (c.loop-i.invariant.1 ∙ is-opposed c.args.codes.now c.loop-i.i c.loop-i.positive c.loop-i.negative c.loop-i-test.true w.0.taken w.1.left)))
-    (⊎_elim
-    (λ w. (
-      omega (arith, c.loop-i-test.true),
-      rw (w.5, w.6)
-          (c.loop-i.invariant.1 ∙ sees_negative c.args.codes.now c.loop-i.i c.loop-i.positive c.loop-i.negative (omega (arith, c.requires.ended c.loop-i.i (omega (arith, w.0.left)))) w.0.left
-          (w.2.ensures ∙ ap (λ (x : ℕ). 2 ^ x) w.1.ensures) (sym w.3.ensures ∙ w.4.taken)),
-    ))
-    (λ w. (
-      omega (arith, c.loop-i-test.true),
-      rw (w.5, w.6)
-          (c.loop-i.invariant.1 ∙ sees_positive c.args.codes.now c.loop-i.i c.loop-i.positive c.loop-i.negative (omega (arith, c.requires.ended c.loop-i.i (omega (arith, w.0.left)))) w.0.left
-          (w.2.ensures ∙ ap (λ (x : ℕ). 2 ^ x) w.1.ensures) (sym w.3.ensures ∙ w.4.left)),
-    )))
-    c.if-code-eq0.branch
+    elim c.if-code-eq0.branch [
+      | then-code-eq0+else-positive-negative-eq0 w ↦
+          (omega (arith, c.loop-i-test.true), rw (w.positive-is, w.negative-is) (c.loop-i.invariant.1 ∙ is-opposed c.args.codes.now c.loop-i.i c.loop-i.positive c.loop-i.negative c.loop-i-test.true w.if-code-eq0.true w.if-positive-negative-eq0.false))
+      | else-code-eq0+then-negative w ↦ (
+        omega (arith, c.loop-i-test.true),
+        rw (w.positive-is, w.negative-is)
+            (c.loop-i.invariant.1 ∙ sees_negative c.args.codes.now c.loop-i.i c.loop-i.positive c.loop-i.negative (omega (arith, c.requires.ended c.loop-i.i (omega (arith, w.if-code-eq0.false)))) w.if-code-eq0.false
+            (w.one-one.ensures ∙ ap (λ (x : ℕ). 2 ^ x) w.variable.ensures) (sym w.negative.ensures ∙ w.if-negative.true)),
+      )
+      | else-code-eq0+else-negative w ↦ (
+        omega (arith, c.loop-i-test.true),
+        rw (w.positive-is, w.negative-is)
+            (c.loop-i.invariant.1 ∙ sees_positive c.args.codes.now c.loop-i.i c.loop-i.positive c.loop-i.negative (omega (arith, c.requires.ended c.loop-i.i (omega (arith, w.if-code-eq0.false)))) w.if-code-eq0.false
+            (w.one-one.ensures ∙ ap (λ (x : ℕ). 2 ^ x) w.variable.ensures) (sym w.negative.ensures ∙ w.if-negative.false)),
+      )
+    ]
 
 pub returns : goal.returns
 returns c =

@@ -1,13 +1,9 @@
 -- `prenex::clause::all_opposed` meets its contract. The invariant: the answer is that of the codes which are left, with the literals seen. Assumes nothing.
-use borrow.Author.Rules.{rules}
-use Prim.Native.Nat.{ℕ, ◌-◌, ◌^◌, ◌≤◌}
-use native.Mathlib.Omega.{arith}
-use mathlib.Core.Logic.{⊎_elim}
-use mathlib.Core.Path.{◌≡◌, sym, ap, ◌∙◌}
+use Prim.Native.Nat.{◌-◌, ◌≤◌}
+use mathlib.Core.Path.{◌≡◌}
 use lib.ListN.{length, drop}
 use Rattle.prenex.specs.Code.{clauses_of, all_opposed}
-use Rattle.prenex.specs.LiteralLaws.{variable-below}
-use Rattle.prenex.specs.OpposedLaws.{all_opposed_with, all_with, codes_over, not-opposed, is-opposed, sees_negative, sees_positive}
+use Rattle.prenex.specs.OpposedLaws.{all_opposed_with}
 use Rattle.prenex.proofs.clause.all_opposed.Given as goal
 
 abbrev pub invariant-loop-i : goal.invariant-loop-i

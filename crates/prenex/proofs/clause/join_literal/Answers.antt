@@ -1,5 +1,4 @@
 -- `prenex::clause::join_literal` meets its contract. Assumes nothing.
-use borrow.Author.Rules.{rules}
 use Rattle.prenex.proofs.clause.join_literal.Goals as goal
 
 pub returns : goal.returns

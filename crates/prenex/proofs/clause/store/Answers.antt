@@ -1,5 +1,4 @@
 -- `prenex::clause::store` meets its contract. Assumes nothing.
-use borrow.Author.Rules.{rules}
 use mathlib.Core.Path.{sym}
 use lib.Seq.{set_out}
 use Rattle.prenex.proofs.clause.store.Goals as goal

@@ -1,14 +1,8 @@
 -- `prenex::clause::write_clauses` meets its contract. The invariant: the stores that are left give what all stores give. Assumes nothing.
-use borrow.Author.Rules.{rules}
-use Prim.Native.Nat.{◌-◌}
 use native.Mathlib.Omega.{arith}
-use mathlib.Core.Logic.{⊎_elim}
-use lib.ListN.{length}
-use Rattle.words.specs.Logic.{not-true, not-false}
-use Rattle.words.specs.Word.{bit}
-use Rattle.prenex.specs.Kinds.{frame_by}
-use Rattle.prenex.specs.ClauseLaws.{Going, going_start, going_none, going_end, going_literal, going_done, frames-short}
+use Rattle.prenex.specs.ClauseLaws.{going_start, going_none, going_end, going_literal, going_done, frames-short}
 use Rattle.prenex.proofs.clause.write_clauses.Goals as goal
+use Rattle.prenex.proofs.clause.write_clauses.Goals.{then-code-eq0+then-not-first, then-code-eq0+else-not-first, else-code-eq0}
 
 pub loop-i-init : goal.loop-i-init
 loop-i-init c =
@@ -24,13 +18,12 @@ join_literal-linked-requires c =
 
 pub loop-i-preserved : goal.loop-i-preserved
 loop-i-preserved c =
-    ⊎_elim
-    (λ w. rw (w.6, w.7, w.8, w.9, w.10, w.11) (going_end c.loop-i.invariant c.loop-i-test.true w.0.taken (not-true c.loop-i.first w.1.taken) w.3.ensures))
-    (⊎_elim
-    (λ w. rw (w.2, w.3, w.4, w.5, w.6, w.7) (going_none c.loop-i.invariant c.loop-i-test.true w.0.taken (not-false c.loop-i.first w.1.left)))
-    (λ w. rw (w.6, w.7, w.8, w.9, w.10, w.11)
-    (going_literal c.loop-i.invariant (omega (arith, c.requires.0.ended c.loop-i.i (omega (arith, w.0.left)))) w.0.left w.1.ensures.0 w.1.ensures.1 w.3.ensures)))
-    c.if-code-eq0.branch
+    elim c.if-code-eq0.branch [
+      | then-code-eq0+then-not-first w ↦ rw (w.out-is, w.ends-is, w.n-is, w.k-is, w.at-is, w.first-is) (going_end c.loop-i.invariant c.loop-i-test.true w.if-code-eq0.true w.if-not-first.true w.store.ensures)
+      | then-code-eq0+else-not-first w ↦ rw (w.out-is, w.ends-is, w.n-is, w.k-is, w.at-is, w.first-is) (going_none c.loop-i.invariant c.loop-i-test.true w.if-code-eq0.true w.if-not-first.false)
+      | else-code-eq0 w ↦ rw (w.out-is, w.ends-is, w.n-is, w.k-is, w.at-is, w.first-is)
+          (going_literal c.loop-i.invariant (omega (arith, c.requires.0.ended c.loop-i.i (omega (arith, w.if-code-eq0.false)))) w.if-code-eq0.false w.literal_frame.ensures.0 w.literal_frame.ensures.1 w.join_literal-linked.ensures)
+    ]
 
 pub shape_of-out : goal.shape_of-out
 shape_of-out c =

@@ -1,13 +1,9 @@
 -- `prenex::clause::write_clauses` meets its contract. The invariant: the stores that are left give what all stores give. Assumes nothing.
-use borrow.Author.Rules.{rules}
 use Prim.Native.Nat.{◌-◌}
-use native.Mathlib.Omega.{arith}
-use mathlib.Core.Logic.{⊎_elim}
 use lib.ListN.{length}
-use Rattle.words.specs.Logic.{not-true, not-false}
 use Rattle.words.specs.Word.{bit}
 use Rattle.prenex.specs.Kinds.{frame_by}
-use Rattle.prenex.specs.ClauseLaws.{Going, going_start, going_none, going_end, going_literal, going_done, frames-short}
+use Rattle.prenex.specs.ClauseLaws.{Going}
 use Rattle.prenex.proofs.clause.write_clauses.Given as goal
 
 abbrev pub invariant-loop-i : goal.invariant-loop-i

@@ -1,13 +1,12 @@
 -- `prenex::clause::write_conjunction` meets its contract. The invariant: the stores that are left give what all stores give. Assumes nothing.
-use borrow.Author.Rules.{rules}
-use Prim.Native.Nat.{◌-◌, ◌<◌}
+use Prim.Native.Nat.{◌<◌}
 use native.Mathlib.Omega.{arith}
-use mathlib.Core.Logic.{⊎_elim}
 use mathlib.Core.Path.{sym, ◌∙◌}
 use lib.ListN.{length, take}
 use lib.Seq.{get_or-take, length-take-le}
-use Rattle.prenex.specs.ClauseLaws.{Joining, joining_start, joining_first, joining_next, joining_done}
+use Rattle.prenex.specs.ClauseLaws.{joining_start, joining_first, joining_next, joining_done}
 use Rattle.prenex.proofs.clause.write_conjunction.Goals as goal
+use Rattle.prenex.proofs.clause.write_conjunction.Goals.{then-first, else-first}
 
 pub loop-i-init : goal.loop-i-init
 loop-i-init c =
@@ -35,10 +34,10 @@ pub loop-i-preserved : goal.loop-i-preserved
 loop-i-preserved c =
     let h : c.loop-i.i < length (take c.args.count c.args.numbers.now) = omega (arith, c.loop-i-test.true, length-take-le c.args.count c.args.numbers.now c.requires.0) in
     let m = sym (get_or-take c.args.count c.args.numbers.now c.loop-i.i 0 c.loop-i-test.true) in
-    ⊎_elim
-    (λ w. rw (w.1, w.2, w.3, w.4) (joining_first c.loop-i.invariant h w.0.taken m))
-    (λ w. rw (w.5, w.6, w.7, w.8 ∙ w.0.left) (joining_next c.loop-i.invariant h w.0.left m w.2.ensures))
-    c.if-first.branch
+    elim c.if-first.branch [
+      | then-first w ↦ rw (w.out-is, w.to-is, w.at-is, w.first-is) (joining_first c.loop-i.invariant h w.if-first.true m)
+      | else-first w ↦ rw (w.out-is, w.to-is, w.at-is, w.first-is ∙ w.if-first.false) (joining_next c.loop-i.invariant h w.if-first.false m w.put.ensures)
+    ]
 
 pub shape_of-out : goal.shape_of-out
 shape_of-out c =

@@ -1,5 +1,4 @@
 -- `prenex::frame::put_bytes` meets its contract. Assumes nothing.
-use borrow.Author.Rules.{rules}
 use native.Mathlib.Omega.{arith}
 use lib.ListN.{length-set}
 use Rattle.words.specs.Stores.{four_sets}

@@ -1,11 +1,7 @@
 -- `prenex::literal::find_occurring` meets its contract. The invariant: what is found, with what the codes that are left have, is what all have. Assumes nothing.
-use borrow.Author.Rules.{rules}
-use Prim.Native.Nat.{◌+◌, ◌-◌, ◌≤◌}
-use native.Mathlib.Omega.{arith}
-use mathlib.Core.Logic.{⊎_elim}
-use mathlib.Core.Path.{refl}
+use Prim.Native.Nat.{◌-◌, ◌≤◌}
 use lib.ListN.{length}
-use Rattle.prenex.specs.LiteralLaws.{Found, found-start, found-end, found-same, found_clause, found-literal}
+use Rattle.prenex.specs.LiteralLaws.{Found}
 use Rattle.prenex.proofs.literal.find_occurring.Given as goal
 
 abbrev pub invariant-loop-i : goal.invariant-loop-i

@@ -1,15 +1,13 @@
 -- `prenex::literal::rank` meets its contract. The invariant: those counted and those that are left are all. Assumes nothing.
-use borrow.Author.Rules.{rules}
-use Prim.Native.Nat.{suc, ◌+◌, ◌-◌, ◌≤◌}
+use Prim.Native.Nat.{suc, ◌+◌, ◌-◌}
 use native.Mathlib.Omega.{arith}
 use native.Mathlib.Numerals.{unary_clauses}
 use native.Mathlib.Nat.{zero-add}
-use mathlib.Core.Logic.{⊎_elim}
 use mathlib.Core.Path.{◌≡◌, sym, ◌∙◌}
 use Rattle.words.specs.Word.{bit}
-use Rattle.prenex.specs.Kinds.{count}
 use Rattle.prenex.specs.LiteralLaws.{count_none, count_has, count_lacks}
 use Rattle.prenex.proofs.literal.rank.Goals as goal
+use Rattle.prenex.proofs.literal.rank.Goals.{then-has, else-has}
 
 pub loop-y-init : goal.loop-y-init
 loop-y-init c =
@@ -19,10 +17,10 @@ pub loop-y-preserved : goal.loop-y-preserved
 loop-y-preserved c =
     let e : c.args.x - c.loop-y.y ≡ suc (c.args.x - (c.loop-y.y + 1)) = omega (arith, c.loop-y-test.true) in
     let h = rw e at c.loop-y.invariant.2 in
-    ⊎_elim
-    (λ w. (omega (arith, c.loop-y-test.true), omega (arith, c.loop-y.invariant, w.1), omega (arith, h, w.1, count_has (bit c.args.word) c.loop-y.y (c.args.x - (c.loop-y.y + 1)) (sym c.has.ensures ∙ w.0.taken))))
-    (λ w. (omega (arith, c.loop-y-test.true), omega (arith, c.loop-y.invariant, w.1), omega (arith, h, w.1, count_lacks (bit c.args.word) c.loop-y.y (c.args.x - (c.loop-y.y + 1)) (sym c.has.ensures ∙ w.0.left))))
-    c.if-has.branch
+    elim c.if-has.branch [
+      | then-has w ↦ (omega (arith, c.loop-y-test.true), omega (arith, c.loop-y.invariant, w.n-is), omega (arith, h, w.n-is, count_has (bit c.args.word) c.loop-y.y (c.args.x - (c.loop-y.y + 1)) (sym c.has.ensures ∙ w.if-has.true)))
+      | else-has w ↦ (omega (arith, c.loop-y-test.true), omega (arith, c.loop-y.invariant, w.n-is), omega (arith, h, w.n-is, count_lacks (bit c.args.word) c.loop-y.y (c.args.x - (c.loop-y.y + 1)) (sym c.has.ensures ∙ w.if-has.false)))
+    ]
 
 pub returns : goal.returns
 returns c =

@@ -1,14 +1,8 @@
 -- `prenex::literal::rank` meets its contract. The invariant: those counted and those that are left are all. Assumes nothing.
-use borrow.Author.Rules.{rules}
-use Prim.Native.Nat.{suc, ◌+◌, ◌-◌, ◌≤◌}
-use native.Mathlib.Omega.{arith}
-use native.Mathlib.Numerals.{unary_clauses}
-use native.Mathlib.Nat.{zero-add}
-use mathlib.Core.Logic.{⊎_elim}
-use mathlib.Core.Path.{◌≡◌, sym, ◌∙◌}
+use Prim.Native.Nat.{◌+◌, ◌-◌, ◌≤◌}
+use mathlib.Core.Path.{◌≡◌}
 use Rattle.words.specs.Word.{bit}
 use Rattle.prenex.specs.Kinds.{count}
-use Rattle.prenex.specs.LiteralLaws.{count_none, count_has, count_lacks}
 use Rattle.prenex.proofs.literal.rank.Given as goal
 
 abbrev pub invariant-loop-y : goal.invariant-loop-y

@@ -1,5 +1,4 @@
 -- `prenex::literal::variable` meets its contract. Assumes nothing.
-use borrow.Author.Rules.{rules}
 use mathlib.Core.Path.{sym}
 use Rattle.prenex.specs.LiteralLaws.{variable-is}
 use Rattle.prenex.proofs.literal.variable.Goals as goal

@@ -1,5 +1,4 @@
 -- `prenex::literal::with_literal` meets its contract. Assumes nothing.
-use borrow.Author.Rules.{rules}
 use Prim.Native.Nat.{ℕ, ◌^◌}
 use mathlib.Core.Path.{sym, ap, ◌∙◌}
 use Rattle.prenex.specs.LiteralLaws.{variable-below, with_negative, with_positive}

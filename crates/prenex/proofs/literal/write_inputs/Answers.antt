@@ -1,14 +1,12 @@
 -- `prenex::literal::write_inputs` meets its contract. The invariant: the stores that are left give what all stores give. Assumes nothing.
-use borrow.Author.Rules.{rules}
-use Prim.Native.Nat.{◌-◌, ◌≤◌}
 use native.Mathlib.Omega.{arith}
-use mathlib.Core.Logic.{⊎_elim}
 use mathlib.Core.Path.{sym, ◌∙◌}
 use Rattle.words.specs.Word.{bit}
 use Rattle.sheet.specs.declared.Kind.TheVariants.{Input}
 use Rattle.prenex.specs.StoreLaws.{input-bytes}
-use Rattle.prenex.specs.LiteralLaws.{Stored, stored-start, stored_has, stored_lacks, stored-end}
+use Rattle.prenex.specs.LiteralLaws.{stored-start, stored_has, stored_lacks, stored-end}
 use Rattle.prenex.proofs.literal.write_inputs.Goals as goal
+use Rattle.prenex.proofs.literal.write_inputs.Goals.{then-has, else-has}
 
 pub loop-x-init : goal.loop-x-init
 loop-x-init c =
@@ -27,12 +25,12 @@ overflow_add-n c =
 pub loop-x-preserved : goal.loop-x-preserved
 loop-x-preserved c = (
   omega (arith, c.loop-x-test.true),
-  ⊎_elim
-      (λ w. stored_has (bit c.args.all) Input 0 c.args.out.now c.loop-x.x c.loop-x.n c.loop-x.out c.loop-x.invariant.1 c.loop-x-test.true _ _
-      (sym c.has.ensures ∙ w.0.taken) w.6 (rw input-bytes (w.5 ∙ w.2.ensures)))
-      (λ w. stored_lacks (bit c.args.all) Input 0 c.args.out.now c.loop-x.x c.loop-x.n c.loop-x.out c.loop-x.invariant.1 c.loop-x-test.true _ _
-      (sym c.has.ensures ∙ w.0.left) w.2 w.1)
-      c.if-has.branch,
+  elim c.if-has.branch [
+    | then-has w ↦ stored_has (bit c.args.all) Input 0 c.args.out.now c.loop-x.x c.loop-x.n c.loop-x.out c.loop-x.invariant.1 c.loop-x-test.true _ _
+        (sym c.has.ensures ∙ w.if-has.true) w.n-is (rw input-bytes (w.out-is ∙ w.put.ensures))
+    | else-has w ↦ stored_lacks (bit c.args.all) Input 0 c.args.out.now c.loop-x.x c.loop-x.n c.loop-x.out c.loop-x.invariant.1 c.loop-x-test.true _ _
+        (sym c.has.ensures ∙ w.if-has.false) w.n-is w.out-is
+  ],
 )
 
 pub shape_of-out : goal.shape_of-out

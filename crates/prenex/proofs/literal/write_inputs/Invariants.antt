@@ -1,13 +1,8 @@
 -- `prenex::literal::write_inputs` meets its contract. The invariant: the stores that are left give what all stores give. Assumes nothing.
-use borrow.Author.Rules.{rules}
 use Prim.Native.Nat.{◌-◌, ◌≤◌}
-use native.Mathlib.Omega.{arith}
-use mathlib.Core.Logic.{⊎_elim}
-use mathlib.Core.Path.{sym, ◌∙◌}
 use Rattle.words.specs.Word.{bit}
 use Rattle.sheet.specs.declared.Kind.TheVariants.{Input}
-use Rattle.prenex.specs.StoreLaws.{input-bytes}
-use Rattle.prenex.specs.LiteralLaws.{Stored, stored-start, stored_has, stored_lacks, stored-end}
+use Rattle.prenex.specs.LiteralLaws.{Stored}
 use Rattle.prenex.proofs.literal.write_inputs.Given as goal
 
 abbrev pub invariant-loop-x : goal.invariant-loop-x

@@ -1,20 +1,12 @@
 -- `prenex::literal::write_negations` meets its contract. The invariant: the stores that are left give what all stores give. Assumes nothing.
--- the negation of x, where the inputs are those of a word
-use borrow.Author.Rules.{rules}
-use Prim.Native.Nat.{ℕ, ◌-◌, ◌≤◌}
 use native.Mathlib.Omega.{arith}
-use mathlib.Core.Logic.{⊎_elim}
 use mathlib.Core.Path.{sym, ◌∙◌}
 use Rattle.words.specs.Word.{bit}
-use Rattle.sheet.specs.declared.Kind.{Kind}
-use Rattle.sheet.specs.declared.Kind.TheVariants.{Not}
-use Rattle.prenex.specs.Kinds.{count}
 use Rattle.prenex.specs.StoreLaws.{not-bytes}
-use Rattle.prenex.specs.LiteralLaws.{Stored, stored-start, stored_has, stored_lacks, stored-end}
+use Rattle.prenex.specs.LiteralLaws.{stored-start, stored_has, stored_lacks, stored-end}
 use Rattle.prenex.proofs.literal.write_negations.Goals as goal
-
-abbrev negation : ℕ → ℕ → Kind
-negation all x = Not (count (bit all) 0 x)
+use Rattle.prenex.proofs.literal.write_negations.Invariants.{negation}
+use Rattle.prenex.proofs.literal.write_negations.Goals.{then-has, else-has}
 
 pub loop-x-init : goal.loop-x-init
 loop-x-init c =
@@ -33,12 +25,12 @@ overflow_add-n c =
 pub loop-x-preserved : goal.loop-x-preserved
 loop-x-preserved c = (
   omega (arith, c.loop-x-test.true),
-  ⊎_elim
-      (λ w. stored_has (bit c.args.negated) (negation c.args.all) c.args.inputs c.args.out.now c.loop-x.x c.loop-x.n c.loop-x.out c.loop-x.invariant.1 c.loop-x-test.true _ _
-      (sym c.has.ensures ∙ w.0.taken) w.7 (rw (not-bytes, ← w.2.ensures.0) (w.6 ∙ w.3.ensures)))
-      (λ w. stored_lacks (bit c.args.negated) (negation c.args.all) c.args.inputs c.args.out.now c.loop-x.x c.loop-x.n c.loop-x.out c.loop-x.invariant.1 c.loop-x-test.true _ _
-      (sym c.has.ensures ∙ w.0.left) w.2 w.1)
-      c.if-has.branch,
+  elim c.if-has.branch [
+    | then-has w ↦ stored_has (bit c.args.negated) (negation c.args.all) c.args.inputs c.args.out.now c.loop-x.x c.loop-x.n c.loop-x.out c.loop-x.invariant.1 c.loop-x-test.true _ _
+        (sym c.has.ensures ∙ w.if-has.true) w.n-is (rw (not-bytes, ← w.rank.ensures.0) (w.out-is ∙ w.put.ensures))
+    | else-has w ↦ stored_lacks (bit c.args.negated) (negation c.args.all) c.args.inputs c.args.out.now c.loop-x.x c.loop-x.n c.loop-x.out c.loop-x.invariant.1 c.loop-x-test.true _ _
+        (sym c.has.ensures ∙ w.if-has.false) w.n-is w.out-is
+  ],
 )
 
 pub shape_of-out : goal.shape_of-out

@@ -2,7 +2,6 @@
 use native.Mathlib.Omega.{arith}
 use lib.ListN.{length-set}
 use Rattle.words.specs.Stores.{two_sets}
-use borrow.Author.Rules.{rules}
 use Rattle.run.proofs.answer.put2.Goals as goal
 
 pub bounds-answers-at-2 : goal.bounds-answers-at-2

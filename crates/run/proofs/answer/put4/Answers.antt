@@ -3,7 +3,6 @@ use native.Mathlib.Omega.{arith}
 use lib.ListN.{length-set}
 use Rattle.words.specs.Stores.{four_sets}
 use Rattle.words.specs.Bytes.{bytes_of}
-use borrow.Author.Rules.{rules}
 use Rattle.run.proofs.answer.put4.Goals as goal
 
 pub bounds-answers-at-2 : goal.bounds-answers-at-2

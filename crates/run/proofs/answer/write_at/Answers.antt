@@ -1,5 +1,4 @@
 -- `run::answer::write_at` meets its contract: each form by its own leaf.
-use borrow.Author.Rules.{rules}
 use Rattle.run.proofs.answer.write_at.Goals as goal
 
 pub write_wide-requires : goal.write_wide-requires

@@ -1,5 +1,4 @@
 -- `run::answer::write_narrow` meets its contract.
-use borrow.Author.Rules.{rules}
 use Rattle.certificate.specs.Written.{narrow-written}
 use Rattle.run.proofs.answer.write_narrow.Goals as goal
 

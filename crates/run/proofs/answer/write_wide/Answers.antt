@@ -1,5 +1,4 @@
 -- `run::answer::write_wide` meets its contract.
-use borrow.Author.Rules.{rules}
 use mathlib.Core.Path.{refl}
 use Rattle.certificate.specs.Written.{wide-written}
 use Rattle.run.proofs.answer.write_wide.Goals as goal

@@ -1,8 +1,7 @@
 -- `session::causes::enter_cause` meets its contract.
-use borrow.Author.Rules.{rules}
 use native.Mathlib.Omega.{arith}
 use mathlib.Core.Path.{sym, ◌∙◌}
-use borrow.Author.Tests.{lt-ltb, le-ltb, not-true, not-false}
+use borrow.Author.Tests.{lt-ltb, le-ltb}
 use Rattle.model.specs.Model.{last_desk}
 use Rattle.model.specs.Causes.{enter_cause}
 use Rattle.session.proofs.causes.enter_cause.Goals as goal

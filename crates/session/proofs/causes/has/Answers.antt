@@ -1,5 +1,4 @@
 -- `session::causes::has` meets its contract.
-use borrow.Author.Rules.{rules}
 use mathlib.Core.Path.{sym}
 use native.Mathlib.Omega.{arith}
 use Rattle.words.specs.Word.{bit_high}

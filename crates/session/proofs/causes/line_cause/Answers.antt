@@ -1,5 +1,4 @@
 -- `session::causes::line_cause` meets its contract.
-use borrow.Author.Rules.{rules}
 use mathlib.Core.Path.{sym, ◌∙◌}
 use Rattle.session.specs.Sound.{length-standing}
 use Rattle.model.specs.Causes.{refusal-unknown, refusal_enter, refusal-take_back, refusal_read, refusal_search}

@@ -1,5 +1,4 @@
 -- `session::causes::unknown` meets its contract.
-use borrow.Author.Rules.{rules}
 use borrow.Author.Tests.{lt-ltb, le-ltb}
 use Rattle.model.specs.Model.{unknown}
 use Rattle.session.proofs.causes.unknown.Goals as goal

@@ -1,5 +1,4 @@
 -- `session::entries::entry_at` meets its contract.
-use borrow.Author.Rules.{rules}
 use mathlib.Core.Path.{sym}
 use lib.Seq.{get_or-take}
 use Rattle.session.proofs.entries.entry_at.Goals as goal

@@ -1,5 +1,4 @@
 -- `session::line::ask` meets its contract.
-use borrow.Author.Rules.{rules}
 use Rattle.session.specs.Sound.{net_ready}
 use Rattle.session.specs.StepLaws.{searched}
 use Rattle.session.proofs.line.ask.Goals as goal
@@ -11,7 +10,7 @@ ask-asked-requires c =
 pub returns : goal.returns
 returns c = record {
   net_unchanged = c.ask-asked.ensures.net_unchanged;
-  same = λ s d.
+  searches = λ s d.
       let w = d.sound.words in
       let f = c.ask-asked.ensures.same s (net_ready d) in
       (searched (rw (w.mask_is, w.values_are) at f.0) f.1 c.recount-next.ensures c.tell_verdict-answer.ensures, rw (c.recount-next.ensures.under, c.recount-next.ensures.over, ← w.mask_is, ← w.values_are) f.2);

@@ -1,5 +1,4 @@
 -- `session::line::enter` meets its contract.
-use borrow.Author.Rules.{rules}
 use mathlib.Core.Path.{refl}
 use Rattle.session.specs.Sound.{length-standing}
 use Rattle.session.proofs.line.enter.Goals as goal

@@ -1,5 +1,4 @@
 -- `session::line::read` meets its contract.
-use borrow.Author.Rules.{rules}
 use mathlib.Core.Path.{refl}
 use Rattle.session.proofs.line.read.Goals as goal
 

@@ -1,5 +1,4 @@
 -- `session::line::step` meets its contract.
-use borrow.Author.Rules.{rules}
 use mathlib.Core.Path.{refl}
 use Rattle.session.specs.Sound.{sound_shaped, sound_opens}
 use Rattle.session.specs.StepLaws.{refused-step, enter_room, enter_fresh, enter_step, take_back_some, take_back_step, read_there, read_step, ask-step, why-step}
@@ -47,7 +46,7 @@ returns-then-k-eq-ASK c = (
   c.ask.ensures.net_unchanged,
   λ s d.
       let n = c.line_cause-number.ensures _ (sound_opens d.sound c.free.ensures) in
-      let f = c.ask.ensures.same s d in
+      let f = c.ask.ensures.searches s d in
       ask-step d.sound _ _ _ _ n c.if-number-ne0.false c.if-k-eq-ASK.true f.0 f.1,
 )
 
@@ -56,5 +55,5 @@ returns c = (
   c.why.ensures.net_unchanged,
   λ s d.
       let n = c.line_cause-number.ensures _ (sound_opens d.sound c.free.ensures) in
-      why-step d.sound _ _ _ _ n c.if-number-ne0.false c.if-k-eq-ENTER.false c.if-k-eq-TAKE_BACK.false c.if-k-eq-READ.false c.if-k-eq-ASK.false (c.why.ensures.same s d),
+      why-step d.sound _ _ _ _ n c.if-number-ne0.false c.if-k-eq-ENTER.false c.if-k-eq-TAKE_BACK.false c.if-k-eq-READ.false c.if-k-eq-ASK.false (c.why.ensures.searches s d),
 )

@@ -1,5 +1,4 @@
 -- `session::line::take_back` meets its contract.
-use borrow.Author.Rules.{rules}
 use Rattle.session.specs.Sound.{length-standing}
 use Rattle.session.proofs.line.take_back.Goals as goal
 

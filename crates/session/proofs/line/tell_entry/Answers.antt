@@ -1,5 +1,4 @@
 -- `session::line::tell_entry` meets its contract.
-use borrow.Author.Rules.{rules}
 use mathlib.Core.Path.{refl}
 use Rattle.session.proofs.line.tell_entry.Goals as goal
 

@@ -1,6 +1,5 @@
 -- `solver::question::layer` meets its contract: a quantifier is put, or none. Assumes nothing.
 use Rattle.solver.specs.QuestionLaws.{layer_none, layer_put}
-use borrow.Author.Rules.{rules}
 use Rattle.solver.proofs.question.layer.Goals as goal
 
 pub returns-then-mask-eq0 : goal.returns-then-mask-eq0

@@ -2,7 +2,6 @@
 use mathlib.Core.Path.{refl}
 use native.Mathlib.Omega.{arith}
 use Rattle.solver.specs.QuestionLaws.{first_stacked, second_stacked, second_low, pose_placed}
-use borrow.Author.Rules.{rules}
 use Rattle.solver.proofs.question.pose.Goals as goal
 
 pub layer-outer-requires : goal.layer-outer-requires

@@ -3,7 +3,6 @@ use Rattle.net.specs.OwnLaws.{stacked_back}
 use lib.ListN.{length}
 use mathlib.Core.Path.{ap}
 use Rattle.solver.specs.QuestionLaws.{asked-room, asked_ground, asked-blank, asked_checked, asked-lent, asked_binds, asked-body, asked_solved, asked_grown}
-use borrow.Author.Rules.{rules}
 use Rattle.solver.proofs.question.solve_in.Goals as goal
 
 pub node_at-node-requires : goal.node_at-node-requires
@@ -16,7 +15,11 @@ judge-requires c =
 
 pub choose-out-requires : goal.choose-out-requires
 choose-out-requires c =
-    let P = (c.pose-own.ensures c.requires.asking.0 c.requires.asking.1.masks) in ((c.node_at-node.ensures.is, asked_binds c.requires.asking.1 P c.node_at-node.ensures.is), (asked_checked c.requires.asking.1 P c.judge.ensures.judged, asked-lent c.requires.asking.1 P c.requires.scratch))
+    let P = (c.pose-own.ensures c.requires.asking.0 c.requires.asking.1.masks) in record {
+      is = (c.node_at-node.ensures.is, asked_binds c.requires.asking.1 P c.node_at-node.ensures.is);
+      checked = asked_checked c.requires.asking.1 P c.judge.ensures.judged;
+      lent = asked-lent c.requires.asking.1 P c.requires.scratch;
+    }
 
 pub forget-requires : goal.forget-requires
 forget-requires c =
@@ -28,4 +31,8 @@ shape_of-net c =
 
 pub returns : goal.returns
 returns c =
-    let P = (c.pose-own.ensures c.requires.asking.0 c.requires.asking.1.masks) in (asked_solved c.requires.asking.1 P c.node_at-node.ensures.is c.choose-out.result.found c.choose-out.result.word c.choose-out.result.reason c.choose-out.ensures.solved.0, (asked_grown c.requires.asking.1 P c.choose-out.ensures.growing, stacked_back P.stacked c.forget.ensures))
+    let P = (c.pose-own.ensures c.requires.asking.0 c.requires.asking.1.masks) in record {
+      settled = asked_solved c.requires.asking.1 P c.node_at-node.ensures.is c.choose-out.result.found c.choose-out.result.word c.choose-out.result.reason c.choose-out.ensures.solved.0;
+      growing = asked_grown c.requires.asking.1 P c.choose-out.ensures.growing;
+      net_unchanged = stacked_back P.stacked c.forget.ensures;
+    }

@@ -1,9 +1,11 @@
 -- `solver::question::solve_wide` meets its contract: the scratch is that of a wide sheet. Assumes nothing.
 use mathlib.Core.Path.{refl}
 use Rattle.solver.specs.QuestionLaws.{blank_scratch}
-use borrow.Author.Rules.{rules}
 use Rattle.solver.proofs.question.solve_wide.Goals as goal
 
 pub solve_in-requires : goal.solve_in-requires
 solve_in-requires c =
-    (c.requires.asking, blank_scratch 6006 9009 c.requires.net_len_bound refl refl refl)
+    record {
+      asking = c.requires.asking;
+      scratch = blank_scratch 6006 9009 c.requires.net_len_bound refl refl refl;
+    }

@@ -1,8 +1,6 @@
 -- `solver::reason::dropped` meets its contract: one turn of the definition's fold. Assumes nothing.
 use mathlib.Core.Path.{refl, sym, ◌∙◌, ap}
 use lib.ListN.{length}
-use borrow.Author.Tests.{not-true}
-use borrow.Author.Rules.{rules}
 use Rattle.records.specs.Both.{tables_same}
 use Rattle.solver.specs.Ask.{ready_grown}
 use Rattle.solver.specs.Why.{turned_absent, turned_idle, less_asking, turned_dropped, turned-kept}

@@ -1,7 +1,6 @@
 -- `solver::reason::gauged` meets its contract: the fold from the entries, for either verdict. Assumes nothing.
 use native.Mathlib.Omega.{arith}
 use mathlib.Core.Path.{◌∙◌}
-use borrow.Author.Rules.{rules}
 use Rattle.records.specs.Both.{tables_then}
 use Rattle.solver.specs.WhyLaws.{ready_entered, gauged_aimed, held-fails, held-assured, reason-no, reason-yes}
 use Rattle.solver.proofs.reason.gauged.Goals as goal
@@ -10,10 +9,10 @@ pub reduced-left-requires : goal.reduced-left-requires
 reduced-left-requires c =
     let a = c.unread-all.ensures c.requires.0.0 c.requires.0.1.net_of in
     let b = c.ours-some.ensures c.requires.0.0 c.requires.0.1.net_of in
-    let K = c.failing-s.ensures.settled c.requires.0.0 c.requires.0.1 in (
-      (omega arith, omega arith, rw c.failing-s.ensures.net_unchanged (gauged_aimed c.requires.0.1 a b c.of-entered.ensures)),
-      (c.requires.0.0, rw c.failing-s.ensures.net_unchanged (ready_entered c.requires.0.1 c.of-entered.ensures K.1), held-fails c.requires.0.1 a b c.of-entered.ensures (rw c.if-s.true at K.0) c.without.ensures),
-    )
+    let K = c.failing-s.ensures.settled c.requires.0.0 c.requires.0.1 in record {
+      v_nonzero = (omega arith, omega arith, rw c.failing-s.ensures.net_unchanged (gauged_aimed c.requires.0.1 a b c.of-entered.ensures));
+      ready = (c.requires.0.0, rw c.failing-s.ensures.net_unchanged (ready_entered c.requires.0.1 c.of-entered.ensures K.1), held-fails c.requires.0.1 a b c.of-entered.ensures (rw c.if-s.true at K.0) c.without.ensures);
+    }
 
 pub returns-then-s : goal.returns-then-s
 returns-then-s c = record {
@@ -31,10 +30,10 @@ pub reduced-left-requires-2 : goal.reduced-left-requires-2
 reduced-left-requires-2 c =
     let a = c.unread-all.ensures c.requires.0.0 c.requires.0.1.net_of in
     let b = c.ours-some.ensures c.requires.0.0 c.requires.0.1.net_of in
-    let K = c.failing-s.ensures.settled c.requires.0.0 c.requires.0.1 in (
-      (omega arith, omega arith, rw c.failing-s.ensures.net_unchanged (gauged_aimed c.requires.0.1 a b c.of-entered.ensures)),
-      (c.requires.0.0, rw c.failing-s.ensures.net_unchanged (ready_entered c.requires.0.1 c.of-entered.ensures K.1), held-assured c.requires.0.1 a b c.of-entered.ensures (rw c.if-s.false at K.0)),
-    )
+    let K = c.failing-s.ensures.settled c.requires.0.0 c.requires.0.1 in record {
+      v_nonzero = (omega arith, omega arith, rw c.failing-s.ensures.net_unchanged (gauged_aimed c.requires.0.1 a b c.of-entered.ensures));
+      ready = (c.requires.0.0, rw c.failing-s.ensures.net_unchanged (ready_entered c.requires.0.1 c.of-entered.ensures K.1), held-assured c.requires.0.1 a b c.of-entered.ensures (rw c.if-s.false at K.0));
+    }
 
 pub returns : goal.returns
 returns c = record {

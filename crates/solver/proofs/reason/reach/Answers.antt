@@ -1,5 +1,4 @@
 -- `solver::reason::reach` meets its contract. Assumes nothing.
-use borrow.Author.Rules.{rules}
 use Rattle.solver.proofs.reason.reach.Goals as goal
 
 pub returns : goal.returns

@@ -2,9 +2,8 @@
 use native.Mathlib.Omega.{arith}
 use mathlib.Core.Path.{ap}
 use lib.ListN.{length}
-use borrow.Author.Rules.{rules}
 use Rattle.solver.specs.Aim.{aimed_less}
-use Rattle.solver.specs.Why.{Turning, turning_start, turning_next, turning-end}
+use Rattle.solver.specs.Why.{turning_start, turning_next, turning-end}
 use Rattle.solver.proofs.reason.reduced.Goals as goal
 
 pub loop-x-init : goal.loop-x-init
@@ -13,8 +12,10 @@ loop-x-init c =
 
 pub dropped-left-requires : goal.dropped-left-requires
 dropped-left-requires c =
-    let J = c.loop-x.invariant.each c.requires.ready.0 c.requires.ready.1 c.requires.ready.2 in
-    ((c.requires.v_nonzero.0, c.requires.v_nonzero.1, omega (arith, c.loop-x.invariant.low)), ((c.requires.ready.0, rw c.loop-x.invariant.same J.ready), rw c.loop-x.invariant.same (aimed_less c.requires.v_nonzero.2 J.less)))
+    let J = c.loop-x.invariant.each c.requires.ready.0 c.requires.ready.1 c.requires.ready.2 in record {
+      v_nonzero = (c.requires.v_nonzero.0, c.requires.v_nonzero.1, omega (arith, c.loop-x.invariant.low));
+      aimed = ((c.requires.ready.0, rw c.loop-x.invariant.same J.ready), rw c.loop-x.invariant.same (aimed_less c.requires.v_nonzero.2 J.less));
+    }
 
 pub loop-x-preserved : goal.loop-x-preserved
 loop-x-preserved c =

@@ -1,10 +1,5 @@
 -- `solver::reason::reduced` meets its contract: the loop is the definition's fold from the last variable to the first. Assumes nothing.
-use native.Mathlib.Omega.{arith}
-use mathlib.Core.Path.{ap}
-use lib.ListN.{length}
-use borrow.Author.Rules.{rules}
-use Rattle.solver.specs.Aim.{aimed_less}
-use Rattle.solver.specs.Why.{Turning, turning_start, turning_next, turning-end}
+use Rattle.solver.specs.Why.{Turning}
 use Rattle.solver.proofs.reason.reduced.Given as goal
 
 abbrev pub invariant-loop-x : goal.invariant-loop-x

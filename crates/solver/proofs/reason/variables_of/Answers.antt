@@ -1,6 +1,5 @@
 -- `solver::reason::variables_of` meets its contract. Assumes nothing.
 use mathlib.Core.Path.{◌∙◌, ap}
-use borrow.Author.Rules.{rules}
 use Rattle.form.specs.Form.{variables}
 use Rattle.solver.proofs.reason.variables_of.Goals as goal
 

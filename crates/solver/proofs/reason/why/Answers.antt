@@ -1,6 +1,5 @@
 -- `solver::reason::why` meets its contract. Assumes nothing.
 use native.Mathlib.Omega.{arith}
-use borrow.Author.Rules.{rules}
 use Rattle.solver.specs.WhyLaws.{reason-none}
 use Rattle.solver.proofs.reason.why.Goals as goal
 

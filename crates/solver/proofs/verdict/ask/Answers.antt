@@ -3,7 +3,6 @@ use mathlib.Core.Path.{sym, ◌∙◌}
 use Rattle.net.specs.Sheet.{net-form}
 use Rattle.solver.specs.Ask.{ready_some}
 use Rattle.solver.specs.GaugedAsk.{answered_plain, answered_failed, ready_chosen, answered_chosen}
-use borrow.Author.Rules.{rules}
 use Rattle.solver.proofs.verdict.ask.Goals as goal
 
 pub returns-then-waiting-eq0 : goal.returns-then-waiting-eq0

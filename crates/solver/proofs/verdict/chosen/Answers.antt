@@ -6,7 +6,6 @@ use Rattle.search.specs.SearchLaws.{tables_fit}
 use Rattle.proxies.specs.KeptLaws.{low_fits}
 use native.Mathlib.Omega.{arith}
 use mathlib.Core.Path.{◌∙◌}
-use borrow.Author.Rules.{rules}
 use Rattle.solver.proofs.verdict.chosen.Goals as goal
 
 pub solve-s-requires : goal.solve-s-requires

@@ -1,7 +1,6 @@
 -- `solver::verdict::ensure` meets its contract. Assumes nothing.
 use native.Mathlib.Omega.{arith}
 use lib.Bits.{and_le_r}
-use borrow.Author.Rules.{rules}
 use Rattle.solver.specs.Ask.{ensured_found, ensured_put}
 use Rattle.solver.proofs.verdict.ensure.Goals as goal
 

@@ -2,7 +2,6 @@
 use Rattle.solver.specs.GaugedAsk.{failed_of}
 use Rattle.proxies.specs.KeptLaws.{low_fits}
 use mathlib.Core.Path.{refl}
-use borrow.Author.Rules.{rules}
 use Rattle.solver.proofs.verdict.failed.Goals as goal
 
 pub ensure-n-requires : goal.ensure-n-requires

@@ -2,7 +2,6 @@
 use Rattle.cube.specs.Cube.{made_same}
 use Rattle.solver.specs.Ask.{ready_grown}
 use Rattle.solver.specs.GaugedAsk.{failing_asking, failing_settled}
-use borrow.Author.Rules.{rules}
 use Rattle.solver.proofs.verdict.failing.Goals as goal
 
 pub solve-requires : goal.solve-requires

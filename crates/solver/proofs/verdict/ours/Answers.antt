@@ -1,7 +1,6 @@
 -- `solver::verdict::ours` meets its contract: read off the net. Assumes nothing.
 use mathlib.Core.Path.{◌∙◌}
 use Rattle.solver.specs.GaugedAsk.{ours_are}
-use borrow.Author.Rules.{rules}
 use Rattle.solver.proofs.verdict.ours.Goals as goal
 
 pub returns : goal.returns

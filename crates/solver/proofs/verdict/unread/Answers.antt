@@ -1,6 +1,5 @@
 -- `solver::verdict::unread` meets its contract: read off the net. Assumes nothing.
 use Rattle.solver.specs.GaugedAsk.{unread-is}
-use borrow.Author.Rules.{rules}
 use Rattle.solver.proofs.verdict.unread.Goals as goal
 
 pub returns : goal.returns

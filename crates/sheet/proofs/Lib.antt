@@ -1,2 +1,0 @@
-pub mod ReaderCalls
-pub mod Relent
