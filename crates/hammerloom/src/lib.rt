@@ -1,4 +1,4 @@
-// The two entries for a host program in C.
+// A whole run with tables of its own, narrow or wide: what the two entries for a host program in C do.
 #![tactic(auto)]
 
 ghost use Rattle.std.specs.Prelude.{◌≡◌};
@@ -8,8 +8,7 @@ ghost use Rattle.hammerloom.specs.Host.{result_of, Host};
 use form::Form;
 
 // Runs a script over a narrow sheet, with two tables of 500 records of its own. It returns 256 times the refusal plus the place, 0 if accepted.
-#[unsafe(no_mangle)]
-pub extern "C" fn hammerloom_run(sheet: &[u8], script: &[u8], answers: &mut [u8]) -> u32
+pub fn hammerloom_run(sheet: &[u8], script: &[u8], answers: &mut [u8]) -> u32
     ensures { Host (narrow sheet.now) script.now answers.old answers.new result }
 {
     let mut under = [0u32; 1500];
@@ -19,8 +18,7 @@ pub extern "C" fn hammerloom_run(sheet: &[u8], script: &[u8], answers: &mut [u8]
 }
 
 // The same over a wide sheet. It returns 65,536 times the refusal plus the place.
-#[unsafe(no_mangle)]
-pub extern "C" fn hammerloom_run_wide(sheet: &[u8], script: &[u8], answers: &mut [u8]) -> u32
+pub fn hammerloom_run_wide(sheet: &[u8], script: &[u8], answers: &mut [u8]) -> u32
     ensures { Host (wide sheet.now) script.now answers.old answers.new result }
 {
     let mut under = [0u32; 2500];

@@ -35,7 +35,7 @@ returns-then-not-built c =
     let f = headed-found c.check-header.ensures c.if-header-eq0.false in
     let few = found-few f c.if-header-gt32.false in
     read_settled c.refused-then-not-built.ensures.1 c.if-sheet-lt-SHEET_BYTES.false f (c.build-built.ensures f.question f.fields f.written.proper few) c.refused-then-not-built.ensures.0
-    c.if-header-gt32.false c.if-built.false c.if-not-built.true
+    c.if-header-gt32.false c.if-built.false (not-true _ c.if-not-built.true)
 
 pub overflow_mul-size : goal.overflow_mul-size
 overflow_mul-size c =
@@ -68,4 +68,4 @@ returns c =
     let f = headed-found c.check-header.ensures c.if-header-eq0.false in
     let few = found-few f c.if-header-gt32.false in
     read_accepted c.if-sheet-lt-SHEET_BYTES.false f c.if-header-gt32.false (c.build-built.ensures f.question f.fields f.written.proper few) c.if-built.false
-    c.if-not-built.false c.copy.ensures
+    (not-false _ c.if-not-built.false) c.copy.ensures

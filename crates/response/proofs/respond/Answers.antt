@@ -14,7 +14,7 @@ slice_bounds-print_run-end c =
 
 pub slice_bounds-print_run-end-2 : goal.slice_bounds-print_run-end-2
 slice_bounds-print_run-end-2 c =
-    counted _ _ (omega (arith, c.read-parsed.ensures.sheet-fits, c.read-parsed.ensures.script-fits, c.read-parsed.auto.script.0))
+    counted _ _ (omega (arith, c.read-parsed.ensures.sheet-fits, c.read-parsed.ensures.script-fits, c.read-parsed.auto.script))
 
 pub returns : goal.returns
 returns c =

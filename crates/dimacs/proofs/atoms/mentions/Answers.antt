@@ -1,15 +1,10 @@
 -- `dimacs::atoms::mentions` meets its contract. The invariant: the answer is that of the fields which are still to be read. Assumes nothing.
-use borrow.Author.Rules.{rules}
-use Prim.Native.Nat.{◌-◌, ◌≤◌}
 use native.Mathlib.Omega.{arith}
-use mathlib.Core.Logic.{⊎_elim}
-use mathlib.Core.Path.{◌≡◌, refl, sym, ◌∙◌}
-use lib.ListN.{length, drop}
-use Rattle.dimacs.specs.Token.{tokens}
+use mathlib.Core.Path.{refl, sym, ◌∙◌}
 use Rattle.dimacs.specs.TokenLaws.{tokens-taken, tokens_none}
-use Rattle.dimacs.specs.Row.{mentions}
 use Rattle.dimacs.specs.RowSteps.{mentions-none, mentions-other_row, mentions-other-variable, mentions-here}
 use Rattle.dimacs.proofs.atoms.mentions.Goals as goal
+use Rattle.dimacs.proofs.atoms.mentions.Goals.{then-row-kind+else-variable_of-v, else-row-kind}
 
 pub loop-at-init : goal.loop-at-init
 loop-at-init c =
@@ -38,10 +33,10 @@ loop-at-preserved c =
     let s = tokens-taken c.next-taken.ensures in (
       c.next-taken.ensures.within,
       c.loop-at.invariant.1
-          ∙ ⊎_elim
-          (λ w. mentions-other-variable s c.row_after-row.ensures c.args.v w.0.taken w.1.ensures w.2.left)
-          (λ w. mentions-other_row s c.row_after-row.ensures c.args.v w.left)
-          c.if-row-kind.branch,
+          ∙ (elim c.if-row-kind.branch [
+            | then-row-kind+else-variable_of-v w ↦ mentions-other-variable s c.row_after-row.ensures c.args.v w.if-row-kind.true w.variable_of.ensures w.if-variable_of-v.false
+            | else-row-kind w ↦ mentions-other_row s c.row_after-row.ensures c.args.v w.if-row-kind.false
+          ]),
     )
 
 pub returns : goal.returns

@@ -1,14 +1,9 @@
 -- `dimacs::atoms::mentions` meets its contract. The invariant: the answer is that of the fields which are still to be read. Assumes nothing.
-use borrow.Author.Rules.{rules}
 use Prim.Native.Nat.{◌-◌, ◌≤◌}
-use native.Mathlib.Omega.{arith}
-use mathlib.Core.Logic.{⊎_elim}
-use mathlib.Core.Path.{◌≡◌, refl, sym, ◌∙◌}
+use mathlib.Core.Path.{◌≡◌}
 use lib.ListN.{length, drop}
 use Rattle.dimacs.specs.Token.{tokens}
-use Rattle.dimacs.specs.TokenLaws.{tokens-taken, tokens_none}
 use Rattle.dimacs.specs.Row.{mentions}
-use Rattle.dimacs.specs.RowSteps.{mentions-none, mentions-other_row, mentions-other-variable, mentions-here}
 use Rattle.dimacs.proofs.atoms.mentions.Given as goal
 
 abbrev pub invariant-loop-at : goal.invariant-loop-at

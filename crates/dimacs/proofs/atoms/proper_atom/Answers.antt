@@ -1,5 +1,4 @@
 -- `dimacs::atoms::proper_atom` meets its contract. Assumes nothing.
-use borrow.Author.Rules.{rules}
 use Rattle.dimacs.proofs.atoms.proper_atom.Goals as goal
 
 pub returns-then-mentions : goal.returns-then-mentions

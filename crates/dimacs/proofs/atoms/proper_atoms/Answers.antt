@@ -1,12 +1,8 @@
 -- `dimacs::atoms::proper_atoms` meets its contract. The invariant: the answer is that of the fields which are still to be read. Assumes nothing.
-use borrow.Author.Rules.{rules}
-use Prim.Native.Nat.{◌-◌, ◌≤◌}
 use native.Mathlib.Omega.{arith}
-use mathlib.Core.Path.{◌≡◌, refl, sym, ◌∙◌}
-use lib.ListN.{length, drop}
-use Rattle.dimacs.specs.Token.{tokens}
+use mathlib.Core.Bool.{not}
+use mathlib.Core.Path.{refl, sym, ap, ◌∙◌}
 use Rattle.dimacs.specs.TokenLaws.{tokens-taken, tokens_none}
-use Rattle.dimacs.specs.Row.{header, proper_atoms}
 use Rattle.dimacs.specs.RowSteps.{proper-none, proper-other_row, proper-zero, proper-next, proper-fails}
 use Rattle.dimacs.proofs.atoms.proper_atoms.Goals as goal
 
@@ -25,7 +21,7 @@ proper_atom-requires c =
 pub returns-then-not-proper_atom : goal.returns-then-not-proper_atom
 returns-then-not-proper_atom c =
     let s = tokens-taken c.next-taken.ensures in
-    sym (c.loop-at.invariant.1 ∙ proper-fails s c.row_after-row.ensures c.if-before-eq-BLOCK.true c.number_of-v.ensures c.if-v-ne0.true c.proper_atom.ensures c.if-not-proper_atom.true)
+    sym (c.loop-at.invariant.1 ∙ proper-fails s c.row_after-row.ensures c.if-before-eq-BLOCK.true c.number_of-v.ensures c.if-v-ne0.true c.proper_atom.ensures (ap not c.if-not-proper_atom.true))
 
 pub loop-at-smaller-else-not-proper_atom : goal.loop-at-smaller-else-not-proper_atom
 loop-at-smaller-else-not-proper_atom c =
@@ -34,7 +30,7 @@ loop-at-smaller-else-not-proper_atom c =
 pub loop-at-preserved-else-not-proper_atom : goal.loop-at-preserved-else-not-proper_atom
 loop-at-preserved-else-not-proper_atom c =
     let s = tokens-taken c.next-taken.ensures in
-    (c.next-taken.ensures.within, c.loop-at.invariant.1 ∙ proper-next s c.row_after-row.ensures c.if-before-eq-BLOCK.true c.number_of-v.ensures c.if-v-ne0.true c.proper_atom.ensures c.if-not-proper_atom.false)
+    (c.next-taken.ensures.within, c.loop-at.invariant.1 ∙ proper-next s c.row_after-row.ensures c.if-before-eq-BLOCK.true c.number_of-v.ensures c.if-v-ne0.true c.proper_atom.ensures (ap not c.if-not-proper_atom.false))
 
 pub loop-at-smaller-else-v-ne0 : goal.loop-at-smaller-else-v-ne0
 loop-at-smaller-else-v-ne0 c =

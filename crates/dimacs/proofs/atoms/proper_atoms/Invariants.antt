@@ -1,13 +1,9 @@
 -- `dimacs::atoms::proper_atoms` meets its contract. The invariant: the answer is that of the fields which are still to be read. Assumes nothing.
-use borrow.Author.Rules.{rules}
 use Prim.Native.Nat.{◌-◌, ◌≤◌}
-use native.Mathlib.Omega.{arith}
-use mathlib.Core.Path.{◌≡◌, refl, sym, ◌∙◌}
+use mathlib.Core.Path.{◌≡◌}
 use lib.ListN.{length, drop}
 use Rattle.dimacs.specs.Token.{tokens}
-use Rattle.dimacs.specs.TokenLaws.{tokens-taken, tokens_none}
 use Rattle.dimacs.specs.Row.{header, proper_atoms}
-use Rattle.dimacs.specs.RowSteps.{proper-none, proper-other_row, proper-zero, proper-next, proper-fails}
 use Rattle.dimacs.proofs.atoms.proper_atoms.Given as goal
 
 abbrev pub invariant-loop-at : goal.invariant-loop-at

@@ -1,5 +1,4 @@
 -- `dimacs::atoms::row_after` meets its contract: its tests are the definition's. Assumes nothing.
-use borrow.Author.Rules.{rules}
 use borrow.Author.Tests.{le-leb, lt-leb, eq-eqb, ne_eqb}
 use Rattle.dimacs.specs.Row.{row_after}
 use Rattle.dimacs.proofs.atoms.row_after.Goals as goal

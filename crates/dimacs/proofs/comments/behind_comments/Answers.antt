@@ -1,14 +1,9 @@
 -- `comments::behind_comments` meets its contract. The invariant: from here on the same is left behind the comment lines. Assumes nothing.
-use borrow.Author.Rules.{rules}
-use Prim.Native.Nat.{◌-◌, ◌≤◌}
 use native.Mathlib.Omega.{arith}
-use mathlib.Core.Bool.{false}
-use mathlib.Core.Logic.{⊎_elim}
-use mathlib.Core.Path.{◌≡◌, refl, sym, ◌∙◌}
-use lib.ListN.{length, drop}
-use Rattle.dimacs.specs.Token.{behind_comments}
+use mathlib.Core.Path.{refl, sym, ◌∙◌}
 use Rattle.dimacs.specs.FieldLaws.{comments_none, comments_inside, comments_start, comments_stop}
 use Rattle.dimacs.proofs.comments.behind_comments.Goals as goal
+use Rattle.dimacs.proofs.comments.behind_comments.Goals.{then-inside, else-inside+else-b-ne99}
 
 pub loop-at-init : goal.loop-at-init
 loop-at-init c =
@@ -24,10 +19,10 @@ loop-at-smaller c =
 
 pub loop-at-preserved : goal.loop-at-preserved
 loop-at-preserved c = (
-  ⊎_elim
-      (λ w. c.loop-at.invariant.0 ∙ rw (w.0.taken, w.1) (comments_inside c.args.text.now c.loop-at.at c.loop-at-test.true))
-      (λ w. c.loop-at.invariant.0 ∙ rw (w.0.left, w.2) (comments_start c.args.text.now c.loop-at.at c.loop-at-test.true w.1.left))
-      c.if-inside.branch,
+  elim c.if-inside.branch [
+    | then-inside w ↦ c.loop-at.invariant.0 ∙ rw (w.if-inside.true, w.inside-is) (comments_inside c.args.text.now c.loop-at.at c.loop-at-test.true)
+    | else-inside+else-b-ne99 w ↦ c.loop-at.invariant.0 ∙ rw (w.if-inside.false, w.inside-is) (comments_start c.args.text.now c.loop-at.at c.loop-at-test.true w.if-b-ne99.false)
+  ],
   omega (arith, c.loop-at-test.true),
 )
 

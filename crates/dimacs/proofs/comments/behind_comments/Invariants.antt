@@ -1,13 +1,9 @@
 -- `comments::behind_comments` meets its contract. The invariant: from here on the same is left behind the comment lines. Assumes nothing.
-use borrow.Author.Rules.{rules}
 use Prim.Native.Nat.{◌-◌, ◌≤◌}
-use native.Mathlib.Omega.{arith}
 use mathlib.Core.Bool.{false}
-use mathlib.Core.Logic.{⊎_elim}
-use mathlib.Core.Path.{◌≡◌, refl, sym, ◌∙◌}
+use mathlib.Core.Path.{◌≡◌}
 use lib.ListN.{length, drop}
 use Rattle.dimacs.specs.Token.{behind_comments}
-use Rattle.dimacs.specs.FieldLaws.{comments_none, comments_inside, comments_start, comments_stop}
 use Rattle.dimacs.proofs.comments.behind_comments.Given as goal
 
 abbrev pub invariant-loop-at : goal.invariant-loop-at

@@ -1,15 +1,10 @@
 -- `dimacs::decode::blocks` meets its contract. The invariant: the stores that are left give what all stores give. Assumes nothing.
-use borrow.Author.Rules.{rules}
-use Prim.Native.Nat.{◌-◌, ◌≤◌}
 use native.Mathlib.Omega.{arith}
-use mathlib.Core.Logic.{⊎_elim}
 use mathlib.Core.Path.{◌∙◌}
-use lib.ListN.{length, drop}
-use Rattle.dimacs.specs.Token.{tokens}
 use Rattle.dimacs.specs.TokenLaws.{tokens-taken, tokens_none}
-use Rattle.dimacs.specs.Row.{header, words_from}
-use Rattle.dimacs.specs.RowSteps.{words_none, words_other_row, words_atom, words_next, Storing, storing_start, storing_same, storing_next, storing-end, storing_length}
+use Rattle.dimacs.specs.RowSteps.{words_none, words_other_row, words_atom, words_next, storing_start, storing_same, storing_next, storing-end, storing_length}
 use Rattle.dimacs.proofs.decode.blocks.Goals as goal
+use Rattle.dimacs.proofs.decode.blocks.Goals.{then-row-eq-BLOCK+then-mark_of-eq1, then-row-eq-BLOCK+else-mark_of-eq1, else-row-eq-BLOCK}
 
 pub loop-at-init : goal.loop-at-init
 loop-at-init c =
@@ -30,24 +25,23 @@ loop-at-smaller c =
 pub loop-at-preserved : goal.loop-at-preserved
 loop-at-preserved c =
     let s = tokens-taken c.next-taken.ensures in
-    ⊎_elim
-    (λ w. (
-      c.next-taken.ensures.within,
-      omega (arith, c.loop-at.invariant.1, c.next-taken.ensures.onward, w.8),
-      storing_next c.loop-at.invariant.2 (words_next s c.row_after-row.ensures c.loop-at.word w.0.taken w.1.ensures w.2.taken w.9) (w.7 ∙ w.4.ensures) w.8,
-    ))
-    (⊎_elim
-    (λ w. (
-      c.next-taken.ensures.within,
-      omega (arith, c.loop-at.invariant.1, c.next-taken.ensures.onward, w.6),
-      storing_same c.loop-at.invariant.2 (words_atom s c.row_after-row.ensures c.loop-at.word w.0.taken w.1.ensures w.2.left w.3.ensures w.4.ensures w.7) w.5 w.6,
-    ))
-    (λ w. (
-      c.next-taken.ensures.within,
-      omega (arith, c.loop-at.invariant.1, c.next-taken.ensures.onward, w.2),
-      storing_same c.loop-at.invariant.2 (words_other_row s c.row_after-row.ensures c.loop-at.word w.0.left w.3) w.1 w.2,
-    )))
-    c.if-row-eq-BLOCK.branch
+    elim c.if-row-eq-BLOCK.branch [
+      | then-row-eq-BLOCK+then-mark_of-eq1 w ↦ (
+        c.next-taken.ensures.within,
+        omega (arith, c.loop-at.invariant.1, c.next-taken.ensures.onward, w.n-is),
+        storing_next c.loop-at.invariant.2 (words_next s c.row_after-row.ensures c.loop-at.word w.if-row-eq-BLOCK.true w.mark_of.ensures w.if-mark_of-eq1.true w.word-is) (w.words-is ∙ w.store_word.ensures) w.n-is,
+      )
+      | then-row-eq-BLOCK+else-mark_of-eq1 w ↦ (
+        c.next-taken.ensures.within,
+        omega (arith, c.loop-at.invariant.1, c.next-taken.ensures.onward, w.n-is),
+        storing_same c.loop-at.invariant.2 (words_atom s c.row_after-row.ensures c.loop-at.word w.if-row-eq-BLOCK.true w.mark_of.ensures w.if-mark_of-eq1.false w.number_of.ensures w.with_atom-word.ensures w.word-is) w.words-is w.n-is,
+      )
+      | else-row-eq-BLOCK w ↦ (
+        c.next-taken.ensures.within,
+        omega (arith, c.loop-at.invariant.1, c.next-taken.ensures.onward, w.n-is),
+        storing_same c.loop-at.invariant.2 (words_other_row s c.row_after-row.ensures c.loop-at.word w.if-row-eq-BLOCK.false w.word-is) w.words-is w.n-is,
+      )
+    ]
 
 pub shape_of-words : goal.shape_of-words
 shape_of-words c =

@@ -1,14 +1,9 @@
 -- `dimacs::decode::blocks` meets its contract. The invariant: the stores that are left give what all stores give. Assumes nothing.
-use borrow.Author.Rules.{rules}
 use Prim.Native.Nat.{◌-◌, ◌≤◌}
-use native.Mathlib.Omega.{arith}
-use mathlib.Core.Logic.{⊎_elim}
-use mathlib.Core.Path.{◌∙◌}
 use lib.ListN.{length, drop}
 use Rattle.dimacs.specs.Token.{tokens}
-use Rattle.dimacs.specs.TokenLaws.{tokens-taken, tokens_none}
 use Rattle.dimacs.specs.Row.{header, words_from}
-use Rattle.dimacs.specs.RowSteps.{words_none, words_other_row, words_atom, words_next, Storing, storing_start, storing_same, storing_next, storing-end, storing_length}
+use Rattle.dimacs.specs.RowSteps.{Storing}
 use Rattle.dimacs.proofs.decode.blocks.Given as goal
 
 abbrev pub invariant-loop-at : goal.invariant-loop-at

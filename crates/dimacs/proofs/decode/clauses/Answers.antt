@@ -1,15 +1,10 @@
 -- `dimacs::decode::clauses` meets its contract. The invariant: the stores that are left give what all stores give. Assumes nothing.
-use borrow.Author.Rules.{rules}
-use Prim.Native.Nat.{◌-◌, ◌≤◌}
 use native.Mathlib.Omega.{arith}
-use mathlib.Core.Logic.{⊎_elim}
 use mathlib.Core.Path.{◌∙◌}
-use lib.ListN.{length, drop}
-use Rattle.dimacs.specs.Token.{tokens}
 use Rattle.dimacs.specs.TokenLaws.{tokens-taken, tokens_none}
-use Rattle.dimacs.specs.Row.{header, codes_from}
-use Rattle.dimacs.specs.RowSteps.{codes_none, codes_other_row, codes_mark, codes_next, Storing, storing_start, storing_same, storing_next, storing-end, storing_length}
+use Rattle.dimacs.specs.RowSteps.{codes_none, codes_other_row, codes_mark, codes_next, storing_start, storing_same, storing_next, storing-end, storing_length}
 use Rattle.dimacs.proofs.decode.clauses.Goals as goal
+use Rattle.dimacs.proofs.decode.clauses.Goals.{then-row-eq-CLAUSE+then-mark_of-eq0, then-row-eq-CLAUSE+else-mark_of-eq0, else-row-eq-CLAUSE}
 
 pub loop-at-init : goal.loop-at-init
 loop-at-init c =
@@ -30,20 +25,23 @@ loop-at-smaller c =
 pub loop-at-preserved : goal.loop-at-preserved
 loop-at-preserved c =
     let s = tokens-taken c.next-taken.ensures in
-    ⊎_elim
-    (λ w. (
-      c.next-taken.ensures.within,
-      omega (arith, c.loop-at.invariant.1, c.next-taken.ensures.onward, w.9),
-      storing_next c.loop-at.invariant.2 (codes_next s c.row_after-row.ensures w.0.taken w.1.ensures w.2.taken w.4.ensures) (w.8 ∙ w.5.ensures) w.9,
-    ))
-    (⊎_elim
-    (λ w. (
-      c.next-taken.ensures.within,
-      omega (arith, c.loop-at.invariant.1, c.next-taken.ensures.onward, w.4),
-      storing_same c.loop-at.invariant.2 (codes_mark s c.row_after-row.ensures w.0.taken w.1.ensures w.2.left) w.3 w.4,
-    ))
-    (λ w. (c.next-taken.ensures.within, omega (arith, c.loop-at.invariant.1, c.next-taken.ensures.onward, w.2), storing_same c.loop-at.invariant.2 (codes_other_row s c.row_after-row.ensures w.0.left) w.1 w.2)))
-    c.if-row-eq-CLAUSE.branch
+    elim c.if-row-eq-CLAUSE.branch [
+      | then-row-eq-CLAUSE+then-mark_of-eq0 w ↦ (
+        c.next-taken.ensures.within,
+        omega (arith, c.loop-at.invariant.1, c.next-taken.ensures.onward, w.n-is),
+        storing_next c.loop-at.invariant.2 (codes_next s c.row_after-row.ensures w.if-row-eq-CLAUSE.true w.mark_of.ensures w.if-mark_of-eq0.true w.code_of.ensures) (w.codes-is ∙ w.store_code.ensures) w.n-is,
+      )
+      | then-row-eq-CLAUSE+else-mark_of-eq0 w ↦ (
+        c.next-taken.ensures.within,
+        omega (arith, c.loop-at.invariant.1, c.next-taken.ensures.onward, w.n-is),
+        storing_same c.loop-at.invariant.2 (codes_mark s c.row_after-row.ensures w.if-row-eq-CLAUSE.true w.mark_of.ensures w.if-mark_of-eq0.false) w.codes-is w.n-is,
+      )
+      | else-row-eq-CLAUSE w ↦ (
+        c.next-taken.ensures.within,
+        omega (arith, c.loop-at.invariant.1, c.next-taken.ensures.onward, w.n-is),
+        storing_same c.loop-at.invariant.2 (codes_other_row s c.row_after-row.ensures w.if-row-eq-CLAUSE.false) w.codes-is w.n-is,
+      )
+    ]
 
 pub shape_of-codes : goal.shape_of-codes
 shape_of-codes c =

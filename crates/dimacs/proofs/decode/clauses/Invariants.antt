@@ -1,14 +1,9 @@
 -- `dimacs::decode::clauses` meets its contract. The invariant: the stores that are left give what all stores give. Assumes nothing.
-use borrow.Author.Rules.{rules}
 use Prim.Native.Nat.{◌-◌, ◌≤◌}
-use native.Mathlib.Omega.{arith}
-use mathlib.Core.Logic.{⊎_elim}
-use mathlib.Core.Path.{◌∙◌}
 use lib.ListN.{length, drop}
 use Rattle.dimacs.specs.Token.{tokens}
-use Rattle.dimacs.specs.TokenLaws.{tokens-taken, tokens_none}
 use Rattle.dimacs.specs.Row.{header, codes_from}
-use Rattle.dimacs.specs.RowSteps.{codes_none, codes_other_row, codes_mark, codes_next, Storing, storing_start, storing_same, storing_next, storing-end, storing_length}
+use Rattle.dimacs.specs.RowSteps.{Storing}
 use Rattle.dimacs.proofs.decode.clauses.Given as goal
 
 abbrev pub invariant-loop-at : goal.invariant-loop-at

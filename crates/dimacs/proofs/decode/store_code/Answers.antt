@@ -1,5 +1,4 @@
 -- `dimacs::decode::store_code` meets its contract. Past the end a store changes nothing. Assumes nothing.
-use borrow.Author.Rules.{rules}
 use mathlib.Core.Path.{sym}
 use lib.Seq.{set_out}
 use Rattle.dimacs.proofs.decode.store_code.Goals as goal

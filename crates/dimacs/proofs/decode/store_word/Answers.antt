@@ -1,5 +1,4 @@
 -- `dimacs::decode::store_word` meets its contract. Past the end a store changes nothing. Assumes nothing.
-use borrow.Author.Rules.{rules}
 use mathlib.Core.Path.{sym}
 use lib.Seq.{set_out}
 use Rattle.dimacs.proofs.decode.store_word.Goals as goal

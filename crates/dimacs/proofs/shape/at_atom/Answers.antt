@@ -1,5 +1,4 @@
 -- `dimacs::shape::at_atom` meets its contract: its test is the definition's. Assumes nothing.
-use borrow.Author.Rules.{rules}
 use mathlib.Core.Path.{sym, ◌∙◌}
 use Rattle.dimacs.proofs.shape.at_atom.Goals as goal
 

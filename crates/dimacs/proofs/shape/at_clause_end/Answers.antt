@@ -1,5 +1,4 @@
 -- `dimacs::shape::at_clause_end` meets its contract: the two tests are made apart. Assumes nothing.
-use borrow.Author.Rules.{rules}
 use native.Mathlib.Omega.{arith}
 use borrow.Author.Tests.{lt-ltb, le-ltb, eq-eqb, ne_eqb}
 use Rattle.dimacs.proofs.shape.at_clause_end.Goals as goal

@@ -1,5 +1,4 @@
 -- `dimacs::shape::block_start` meets its contract: its test is the definition's. Assumes nothing.
-use borrow.Author.Rules.{rules}
 use borrow.Author.Tests.{eq-eqb, ne_eqb}
 use Rattle.dimacs.proofs.shape.block_start.Goals as goal
 

@@ -1,5 +1,4 @@
 -- `dimacs::shape::clause_start` meets its contract: one of its tests is made apart. Assumes nothing.
-use borrow.Author.Rules.{rules}
 use native.Mathlib.Omega.{arith}
 use borrow.Author.Tests.{lt-ltb, le-ltb}
 use Rattle.dimacs.proofs.shape.clause_start.Goals as goal

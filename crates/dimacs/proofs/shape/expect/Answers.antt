@@ -1,5 +1,4 @@
 -- `dimacs::shape::expect` meets its contract: its test is the definition's. Assumes nothing.
-use borrow.Author.Rules.{rules}
 use Rattle.dimacs.proofs.shape.expect.Goals as goal
 
 pub returns-then-ok : goal.returns-then-ok

@@ -1,29 +1,21 @@
 -- `dimacs::shape::is_zero` meets its contract: at a number the field is known, and no other variant is a 0. Assumes nothing.
--- the variants of the last arm
-use borrow.Author.Rules.{rules}
 use Prim.Native.Nat.{ℕ}
 use mathlib.Core.Bool.{false}
-use mathlib.Core.List.{List, [], ◌∷◌}
 use mathlib.Core.Path.{◌≡◌, refl, sym, ap}
-use denote.Enum.Declared.{tag_of}
-use types.Run.{OneOf, miss}
 use Rattle.dimacs.specs.Shape.{is_zero}
 use Rattle.dimacs.specs.declared.token.Token.{Token}
 use Rattle.dimacs.specs.declared.token.Token.TheVariants.{Line, Problem, Format, Exists, Forall, Number, Negative, Other}
-use Rattle.dimacs.specs.contracts.token.Token.{the_type}
 use Rattle.dimacs.proofs.shape.is_zero.Goals as goal
 
-abbrev others : List ℕ
-others = 0 ∷ 1 ∷ 2 ∷ 3 ∷ 4 ∷ 6 ∷ 7 ∷ []
-
-none : (t : Token) → OneOf others (tag_of the_type t) → false ≡ is_zero t
+-- the variants of the last arm
+none : (t : Token) → ((n : ℕ) → t ≡ Number n → ⊥) → false ≡ is_zero t
 unfolding is_zero
 none Line k = refl
 none Problem k = refl
 none Format k = refl
 none Exists k = refl
 none Forall k = refl
-none (Number n) k = absurd (miss others 5 tt k)
+none (Number n) k = absurd (k n refl)
 none (Negative n) k = refl
 none Other k = refl
 
@@ -34,4 +26,4 @@ returns-in-Number c =
 
 pub returns-in_default : goal.returns-in_default
 returns-in_default c =
-    none c.args.t c.in_default.in_default-own.keys2
+    none c.args.t c.in_default.not-Number

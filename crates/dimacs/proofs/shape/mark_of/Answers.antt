@@ -1,30 +1,21 @@
 -- `dimacs::shape::mark_of` meets its contract: an arm for each mark, and no other variant is one. Assumes nothing.
--- the variants of the last arm
-use borrow.Author.Rules.{rules}
-use Prim.Native.Nat.{ℕ}
-use mathlib.Core.List.{List, [], ◌∷◌}
 use mathlib.Core.Path.{◌≡◌, refl, sym, ap}
-use denote.Enum.Declared.{tag_of}
-use types.Run.{OneOf, miss}
 use Rattle.dimacs.specs.Shape.{mark_of}
 use Rattle.dimacs.specs.declared.token.Token.{Token}
 use Rattle.dimacs.specs.declared.token.Token.TheVariants.{Line, Problem, Format, Exists, Forall, Number, Negative, Other}
-use Rattle.dimacs.specs.contracts.token.Token.{the_type}
 use Rattle.dimacs.proofs.shape.mark_of.Goals as goal
 
-abbrev others : List ℕ
-others = 5 ∷ 6 ∷ 7 ∷ []
-
-none : (t : Token) → OneOf others (tag_of the_type t) → 0 ≡ mark_of t
+-- the variants of the last arm
+none : (t : Token) → (t ≡ Line → ⊥) → (t ≡ Problem → ⊥) → (t ≡ Format → ⊥) → (t ≡ Exists → ⊥) → (t ≡ Forall → ⊥) → 0 ≡ mark_of t
 unfolding mark_of
-none Line k = absurd (miss others 0 tt k)
-none Problem k = absurd (miss others 1 tt k)
-none Format k = absurd (miss others 2 tt k)
-none Exists k = absurd (miss others 3 tt k)
-none Forall k = absurd (miss others 4 tt k)
-none (Number n) k = refl
-none (Negative n) k = refl
-none Other k = refl
+none Line k1 k2 k3 k4 k5 = absurd (k1 refl)
+none Problem k1 k2 k3 k4 k5 = absurd (k2 refl)
+none Format k1 k2 k3 k4 k5 = absurd (k3 refl)
+none Exists k1 k2 k3 k4 k5 = absurd (k4 refl)
+none Forall k1 k2 k3 k4 k5 = absurd (k5 refl)
+none (Number n) k1 k2 k3 k4 k5 = refl
+none (Negative n) k1 k2 k3 k4 k5 = refl
+none Other k1 k2 k3 k4 k5 = refl
 
 pub returns-in-Line : goal.returns-in-Line
 unfolding mark_of
@@ -53,4 +44,4 @@ returns-in-Forall c =
 
 pub returns-in_default : goal.returns-in_default
 returns-in_default c =
-    none c.args.t c.in_default.in_default-own.keys6
+    none c.args.t c.in_default.not-Line c.in_default.not-Problem c.in_default.not-Format c.in_default.not-Exists c.in_default.not-Forall

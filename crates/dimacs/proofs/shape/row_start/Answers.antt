@@ -1,5 +1,4 @@
 -- `dimacs::shape::row_start` meets its contract: its tests are the definition's. Assumes nothing.
-use borrow.Author.Rules.{rules}
 use borrow.Author.Tests.{eq-eqb, ne_eqb}
 use Rattle.dimacs.proofs.shape.row_start.Goals as goal
 

@@ -1,11 +1,6 @@
 -- `dimacs::shape::run` meets its contract. The invariant: taking the fields that are left gives what taking all of them gives. Assumes nothing.
-use borrow.Author.Rules.{rules}
-use Prim.Native.Nat.{◌-◌, ◌≤◌}
 use native.Mathlib.Omega.{arith}
-use mathlib.Core.Path.{◌≡◌, refl, sym, ◌∙◌}
-use lib.ListN.{length, drop}
-use Rattle.dimacs.specs.Token.{tokens}
-use Rattle.dimacs.specs.Shape as Machine
+use mathlib.Core.Path.{refl, sym, ◌∙◌}
 use Rattle.dimacs.specs.ShapeSteps.{run-taken, run_none}
 use Rattle.dimacs.proofs.shape.run.Goals as goal
 

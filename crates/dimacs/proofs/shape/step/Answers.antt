@@ -1,5 +1,4 @@
 -- `dimacs::shape::step` meets its contract: each arm is the definition's at its phase. Assumes nothing.
-use borrow.Author.Rules.{rules}
 use Rattle.dimacs.specs.Shape.{step, step_in}
 use Rattle.dimacs.proofs.shape.step.Goals as goal
 

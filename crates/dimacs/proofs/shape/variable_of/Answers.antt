@@ -1,30 +1,22 @@
 -- `dimacs::shape::variable_of` meets its contract: at a number, with a sign or without, the field is known, and no other variant holds one. Assumes nothing.
--- the variants of the last arm
-use borrow.Author.Rules.{rules}
 use Prim.Native.Nat.{ℕ}
-use mathlib.Core.List.{List, [], ◌∷◌}
 use mathlib.Core.Path.{◌≡◌, refl, sym, ap}
-use denote.Enum.Declared.{tag_of}
-use types.Run.{OneOf, miss}
 use Rattle.dimacs.specs.Shape.{variable_of}
 use Rattle.dimacs.specs.declared.token.Token.{Token}
 use Rattle.dimacs.specs.declared.token.Token.TheVariants.{Line, Problem, Format, Exists, Forall, Number, Negative, Other}
-use Rattle.dimacs.specs.contracts.token.Token.{the_type}
 use Rattle.dimacs.proofs.shape.variable_of.Goals as goal
 
-abbrev others : List ℕ
-others = 0 ∷ 1 ∷ 2 ∷ 3 ∷ 4 ∷ 7 ∷ []
-
-none : (t : Token) → OneOf others (tag_of the_type t) → 0 ≡ variable_of t
+-- the variants of the last arm
+none : (t : Token) → ((n : ℕ) → t ≡ Number n → ⊥) → ((n : ℕ) → t ≡ Negative n → ⊥) → 0 ≡ variable_of t
 unfolding variable_of
-none Line k = refl
-none Problem k = refl
-none Format k = refl
-none Exists k = refl
-none Forall k = refl
-none (Number n) k = absurd (miss others 5 tt k)
-none (Negative n) k = absurd (miss others 6 tt k)
-none Other k = refl
+none Line k1 k2 = refl
+none Problem k1 k2 = refl
+none Format k1 k2 = refl
+none Exists k1 k2 = refl
+none Forall k1 k2 = refl
+none (Number n) k1 k2 = absurd (k1 n refl)
+none (Negative n) k1 k2 = absurd (k2 n refl)
+none Other k1 k2 = refl
 
 pub returns-in-Number : goal.returns-in-Number
 unfolding variable_of
@@ -38,4 +30,4 @@ returns-in-Negative c =
 
 pub returns-in_default : goal.returns-in_default
 returns-in_default c =
-    none c.args.t c.in_default.in_default-own.keys3
+    none c.args.t c.in_default.not-Number c.in_default.not-Negative

@@ -1,22 +1,13 @@
 -- `dimacs::shape::whole` meets its contract: one phase ends a text, and no other. Assumes nothing.
--- the phases of the last arm
-use borrow.Author.Rules.{rules}
-use Prim.Native.Nat.{ℕ}
 use mathlib.Core.Bool.{false}
-use mathlib.Core.List.{List, [], ◌∷◌}
 use mathlib.Core.Path.{◌≡◌, refl}
-use denote.Enum.Declared.{tag_of}
-use types.Run.{OneOf, miss}
 use Rattle.dimacs.specs.Shape.{finished, whole}
 use Rattle.dimacs.specs.declared.shape.Phase.{Phase}
 use Rattle.dimacs.specs.declared.shape.Phase.TheVariants.{AtProblem, AtFormat, AtVariables, AtCount, AtHeaderEnd, AtRow, AtFirstAtom, AtAtom, AtBlockEnd, AtClause, AtLiteral, AtClauseEnd, Broken}
-use Rattle.dimacs.specs.contracts.shape.Phase.{the_type}
 use Rattle.dimacs.proofs.shape.whole.Goals as goal
 
-abbrev others : List ℕ
-others = 0 ∷ 1 ∷ 2 ∷ 3 ∷ 4 ∷ 5 ∷ 6 ∷ 7 ∷ 8 ∷ 10 ∷ 11 ∷ 12 ∷ []
-
-unfinished : (p : Phase) → OneOf others (tag_of the_type p) → finished p ≡ false
+-- the phases of the last arm
+unfinished : (p : Phase) → (p ≡ AtClause → ⊥) → finished p ≡ false
 unfolding finished
 unfinished AtProblem k = refl
 unfinished AtFormat k = refl
@@ -27,7 +18,7 @@ unfinished AtRow k = refl
 unfinished AtFirstAtom k = refl
 unfinished AtAtom k = refl
 unfinished AtBlockEnd k = refl
-unfinished AtClause k = absurd (miss others 9 tt k)
+unfinished AtClause k = absurd (k refl)
 unfinished AtLiteral k = refl
 unfinished AtClauseEnd k = refl
 unfinished Broken k = refl
@@ -40,4 +31,4 @@ returns-in-AtClause c =
 pub returns-in_default : goal.returns-in_default
 unfolding whole
 returns-in_default c =
-    rw (unfinished c.args.s.phase c.in_default.in_default-own.keys2)
+    rw (unfinished c.args.s.phase c.in_default.not-AtClause)

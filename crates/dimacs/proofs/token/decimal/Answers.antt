@@ -1,15 +1,11 @@
 -- `token::decimal` meets its contract. The invariant: from here on the digits make the number that the word is. Assumes nothing.
-use borrow.Author.Rules.{rules}
-use Prim.Native.Nat.{◌-◌, ◌<◌, ◌≤◌}
+use Prim.Native.Nat.{◌<◌}
 use native.Mathlib.Omega.{arith}
-use mathlib.Core.Logic.{⊎_elim}
 use mathlib.Core.Path.{◌≡◌, sym, ◌∙◌}
 use lib.ListN.{get_or}
-use lib.Seq.{slice}
-use Rattle.dimacs.specs.Token.{no_number, decimal_from}
-use Rattle.dimacs.specs.Token as Field
 use Rattle.dimacs.specs.FieldLaws.{decimal-none, decimal_leading, decimal-short, decimal-long, with_digit-most, digits-none, digits_stop, digits-go}
 use Rattle.dimacs.proofs.token.decimal.Goals as goal
+use Rattle.dimacs.proofs.token.decimal.Goals.{then-from-to-2+else-text-from-eq48, else-from-to-2}
 
 pub returns-then-from-to : goal.returns-then-from-to
 returns-then-from-to c =
@@ -24,9 +20,10 @@ loop-at-init c =
     let h : c.args.from < c.args.to = omega (arith, c.requires.0, c.if-from-to.false) in (
       c.requires.0,
       omega arith,
-      ⊎_elim (λ w. decimal-long c.args.text.now c.args.from c.args.to h c.requires.1 w.2.left)
-          (λ w. decimal-short c.args.text.now c.args.from c.args.to h c.requires.1 w.left)
-          c.if-from-to-2.branch,
+      elim c.if-from-to-2.branch [
+        | then-from-to-2+else-text-from-eq48 w ↦ decimal-long c.args.text.now c.args.from c.args.to h c.requires.1 w.if-text-from-eq48.false
+        | else-from-to-2 w ↦ decimal-short c.args.text.now c.args.from c.args.to h c.requires.1 w.if-from-to-2.false
+      ],
     )
 
 pub returns-then-value : goal.returns-then-value

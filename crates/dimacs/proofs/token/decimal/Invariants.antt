@@ -1,14 +1,9 @@
 -- `token::decimal` meets its contract. The invariant: from here on the digits make the number that the word is. Assumes nothing.
-use borrow.Author.Rules.{rules}
 use Prim.Native.Nat.{◌-◌, ◌<◌, ◌≤◌}
-use native.Mathlib.Omega.{arith}
-use mathlib.Core.Logic.{⊎_elim}
-use mathlib.Core.Path.{◌≡◌, sym, ◌∙◌}
-use lib.ListN.{get_or}
+use mathlib.Core.Path.{◌≡◌}
 use lib.Seq.{slice}
 use Rattle.dimacs.specs.Token.{no_number, decimal_from}
 use Rattle.dimacs.specs.Token as Field
-use Rattle.dimacs.specs.FieldLaws.{decimal-none, decimal_leading, decimal-short, decimal-long, with_digit-most, digits-none, digits_stop, digits-go}
 use Rattle.dimacs.proofs.token.decimal.Given as goal
 
 abbrev pub invariant-loop-at : goal.invariant-loop-at

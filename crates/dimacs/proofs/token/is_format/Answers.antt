@@ -1,5 +1,4 @@
 -- `token::is_format` meets its contract: the word cnf, byte by byte. Assumes nothing.
-use borrow.Author.Rules.{rules}
 use Prim.Native.Nat.{◌+◌}
 use lib.ListN.{get_or}
 use borrow.Author.Tests.{eq-eqb, ne_eqb}

@@ -1,5 +1,5 @@
 -- `token::letter_token` meets its contract: the arms are the cases of the definition. Assumes nothing.
-use borrow.Author.Rules.{rules}
+use native.Mathlib.Omega.{arith}
 use mathlib.Core.Path.{ap, ◌∙◌}
 use borrow.Author.Tests.{ne_eqb}
 use Rattle.dimacs.specs.Token.{letter_token, number_token}
@@ -24,4 +24,4 @@ pub returns-in_default : goal.returns-in_default
 unfolding letter_token
 returns-in_default c =
     c.number_token.ensures ∙ ap number_token c.with_digit.ensures
-    ∙ rw (ne_eqb c.args.b 112 c.in_default.in_default-own.rest.0.0.1, ne_eqb c.args.b 101 c.in_default.in_default-own.rest.0.1, ne_eqb c.args.b 97 c.in_default.in_default-own.rest.1)
+    ∙ rw (ne_eqb c.args.b 112 (omega arith), ne_eqb c.args.b 101 (omega arith), ne_eqb c.args.b 97 (omega arith))

@@ -1,5 +1,4 @@
 -- `token::next` meets its contract: nothing behind the blanks, a line's end, or a word. Assumes nothing.
-use borrow.Author.Rules.{rules}
 use Prim.Native.Nat.{◌<◌}
 use native.Mathlib.Omega.{arith}
 use lib.ListN.{length}

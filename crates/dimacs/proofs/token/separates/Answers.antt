@@ -1,5 +1,4 @@
 -- `token::separates` meets its contract: a blank or a line's end. Assumes nothing.
-use borrow.Author.Rules.{rules}
 use mathlib.Core.Path.{sym, ◌∙◌}
 use Rattle.dimacs.specs.Token.{separates}
 use Rattle.dimacs.proofs.token.separates.Goals as goal

@@ -1,11 +1,6 @@
 -- `token::skip_blanks` meets its contract. The invariant: from here on the same is left behind the blanks. Assumes nothing.
-use borrow.Author.Rules.{rules}
-use Prim.Native.Nat.{◌-◌, ◌≤◌}
 use native.Mathlib.Omega.{arith}
-use mathlib.Core.Path.{◌≡◌, refl, sym, ◌∙◌}
-use lib.ListN.{length, drop}
-use borrow.Author.Tests.{not-true, not-false}
-use Rattle.dimacs.specs.Token.{after_blanks}
+use mathlib.Core.Path.{refl, sym, ◌∙◌}
 use Rattle.dimacs.specs.FieldLaws.{blanks_none, blanks_stop, blanks_go}
 use Rattle.dimacs.proofs.token.skip_blanks.Goals as goal
 

@@ -1,12 +1,8 @@
 -- `token::skip_blanks` meets its contract. The invariant: from here on the same is left behind the blanks. Assumes nothing.
-use borrow.Author.Rules.{rules}
 use Prim.Native.Nat.{◌-◌, ◌≤◌}
-use native.Mathlib.Omega.{arith}
-use mathlib.Core.Path.{◌≡◌, refl, sym, ◌∙◌}
+use mathlib.Core.Path.{◌≡◌}
 use lib.ListN.{length, drop}
-use borrow.Author.Tests.{not-true, not-false}
 use Rattle.dimacs.specs.Token.{after_blanks}
-use Rattle.dimacs.specs.FieldLaws.{blanks_none, blanks_stop, blanks_go}
 use Rattle.dimacs.proofs.token.skip_blanks.Given as goal
 
 abbrev pub invariant-loop-at : goal.invariant-loop-at

@@ -1,5 +1,4 @@
 -- `token::with_digit` meets its contract: the tests of the code are those of the definition. Assumes nothing.
-use borrow.Author.Rules.{rules}
 use borrow.Author.Tests.{lt-leb, le-leb, lt-ltb, le-ltb}
 use Rattle.dimacs.specs.Token.{digit, with_digit}
 use Rattle.dimacs.proofs.token.with_digit.Goals as goal

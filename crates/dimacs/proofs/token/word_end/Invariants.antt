@@ -1,10 +1,7 @@
 -- `token::word_end` meets its contract. The invariant: the word from here on ends where the whole word does. Assumes nothing.
-use borrow.Author.Rules.{rules}
 use Prim.Native.Nat.{◌-◌, ◌≤◌}
-use native.Mathlib.Omega.{arith}
-use mathlib.Core.Path.{sym, ◌∙◌}
 use lib.ListN.{length}
-use Rattle.dimacs.specs.FieldLaws.{SameEnd, word_none, word_stop, word-go}
+use Rattle.dimacs.specs.FieldLaws.{SameEnd}
 use Rattle.dimacs.proofs.token.word_end.Given as goal
 
 abbrev pub invariant-loop-at : goal.invariant-loop-at

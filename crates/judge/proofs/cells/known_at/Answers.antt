@@ -1,7 +1,6 @@
 -- `judge::cells::known_at` meets its contract. Assumes nothing.
 use native.Mathlib.Omega.{arith}
 use mathlib.Core.Path.{refl}
-use borrow.Author.Rules.{rules}
 use Rattle.judge.specs.Cells.{value_of, reason_of}
 use Rattle.judge.proofs.cells.known_at.Goals as goal
 

@@ -1,8 +1,6 @@
 -- `judge::cells::undo` meets its contract: whatever the cells were, the chain goes back there, and each turn leaves fewer words set. Assumes nothing.
-use mathlib.Core.Path.{◌≡◌, refl, ◌∙◌}
-use lib.ListN.{length}
-use borrow.Author.Rules.{rules}
-use Rattle.judge.specs.CellLaws.{Undone, some, undone_start, undone_here, undone_less, undone_step, undone-end}
+use mathlib.Core.Path.{refl, ◌∙◌}
+use Rattle.judge.specs.CellLaws.{undone_start, undone_here, undone_less, undone_step, undone-end}
 use Rattle.judge.proofs.cells.undo.Goals as goal
 
 pub loop-at-init : goal.loop-at-init

@@ -1,8 +1,7 @@
 -- `judge::cells::undo` meets its contract: whatever the cells were, the chain goes back there, and each turn leaves fewer words set. Assumes nothing.
-use mathlib.Core.Path.{◌≡◌, refl, ◌∙◌}
+use mathlib.Core.Path.{◌≡◌}
 use lib.ListN.{length}
-use borrow.Author.Rules.{rules}
-use Rattle.judge.specs.CellLaws.{Undone, some, undone_start, undone_here, undone_less, undone_step, undone-end}
+use Rattle.judge.specs.CellLaws.{Undone, some}
 use Rattle.judge.proofs.cells.undo.Given as goal
 
 abbrev pub invariant-loop-at : goal.invariant-loop-at

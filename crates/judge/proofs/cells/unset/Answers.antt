@@ -1,6 +1,5 @@
 -- `judge::cells::unset` meets its contract. Assumes nothing.
 use mathlib.Core.Path.{refl}
-use borrow.Author.Rules.{rules}
 use Rattle.judge.specs.Cells.{previous, cleared}
 use Rattle.judge.proofs.cells.unset.Goals as goal
 

@@ -1,7 +1,6 @@
 -- `judge::cells::vacant` meets its contract. Assumes nothing.
 use mathlib.Core.Bool.{false}
 use mathlib.Core.Path.{refl}
-use borrow.Author.Rules.{rules}
 use borrow.Author.Tests.{eqb-true}
 use Rattle.words.specs.Logic.{clash}
 use Rattle.judge.proofs.cells.vacant.Goals as goal

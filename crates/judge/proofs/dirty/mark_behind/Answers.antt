@@ -1,9 +1,6 @@
 -- `judge::dirty::mark_behind` meets its contract: the node rises until it is past a. Assumes nothing.
-use Prim.Native.Nat.{◌+◌, ◌-◌}
 use native.Mathlib.Omega.{arith}
-use mathlib.Core.Path.{◌≡◌, refl, ◌∙◌}
-use lib.ListN.{length}
-use borrow.Author.Rules.{rules}
+use mathlib.Core.Path.{refl, ◌∙◌}
 use Rattle.judge.proofs.dirty.mark_behind.Goals as goal
 
 pub frames-k-requires : goal.frames-k-requires

@@ -1,9 +1,7 @@
 -- `judge::dirty::mark_behind` meets its contract: the node rises until it is past a. Assumes nothing.
 use Prim.Native.Nat.{◌+◌, ◌-◌}
-use native.Mathlib.Omega.{arith}
-use mathlib.Core.Path.{◌≡◌, refl, ◌∙◌}
+use mathlib.Core.Path.{◌≡◌}
 use lib.ListN.{length}
-use borrow.Author.Rules.{rules}
 use Rattle.judge.proofs.dirty.mark_behind.Given as goal
 
 abbrev pub invariant-loop-k : goal.invariant-loop-k

@@ -1,8 +1,6 @@
 -- `judge::dirty::mark_readers` meets its contract: it ends because the set of variables falls, as a word. Assumes nothing.
 use native.Mathlib.Omega.{arith}
-use mathlib.Core.Path.{◌≡◌, refl, ◌∙◌}
-use lib.ListN.{length}
-use borrow.Author.Rules.{rules}
+use mathlib.Core.Path.{refl, ◌∙◌}
 use Rattle.words.specs.Mask.{top_less}
 use Rattle.judge.proofs.dirty.mark_readers.Goals as goal
 

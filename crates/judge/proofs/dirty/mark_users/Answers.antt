@@ -1,9 +1,6 @@
 -- `judge::dirty::mark_users` meets its contract: it ends because the links fall. Assumes nothing.
-use Prim.Native.Nat.{◌+◌, ◌*◌}
 use native.Mathlib.Omega.{arith}
-use mathlib.Core.Path.{◌≡◌, refl, ◌∙◌}
-use lib.ListN.{length}
-use borrow.Author.Rules.{rules}
+use mathlib.Core.Path.{refl, ◌∙◌}
 use Rattle.judge.proofs.dirty.mark_users.Goals as goal
 
 pub nodes-end-requires : goal.nodes-end-requires

@@ -1,9 +1,6 @@
 -- `judge::dirty::mark_variable` meets its contract: it ends because the links fall. Assumes nothing.
-use Prim.Native.Nat.{◌+◌, ◌*◌}
-use native.Mathlib.Omega.{arith}
-use mathlib.Core.Path.{◌≡◌, refl, ◌∙◌}
+use mathlib.Core.Path.{◌≡◌}
 use lib.ListN.{length}
-use borrow.Author.Rules.{rules}
 use Rattle.judge.proofs.dirty.mark_variable.Given as goal
 
 abbrev pub invariant-loop-link : goal.invariant-loop-link

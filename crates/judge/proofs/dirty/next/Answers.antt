@@ -1,7 +1,5 @@
 -- `judge::dirty::next` meets its contract: the place rises to the next word of the set until it is past a. Assumes nothing.
-use Prim.Native.Nat.{◌+◌, ◌-◌, ◌≤◌}
 use native.Mathlib.Omega.{arith}
-use borrow.Author.Rules.{rules}
 use Rattle.judge.proofs.dirty.next.Goals as goal
 
 pub loop-at-init : goal.loop-at-init

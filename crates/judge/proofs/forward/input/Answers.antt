@@ -1,7 +1,6 @@
 -- `judge::forward::input` meets its contract. Assumes nothing.
 use native.Mathlib.Omega.{arith}
 use mathlib.Core.Path.{sym, ◌∙◌}
-use borrow.Author.Rules.{rules}
 use Rattle.net.specs.Layout.{val}
 use Rattle.judge.proofs.forward.input.Goals as goal
 

@@ -1,9 +1,6 @@
 -- `judge::forward::judge_all` meets its contract: what is known stays right as each node is judged in turn. Assumes nothing.
-use Prim.Native.Nat.{◌+◌, ◌-◌}
 use native.Mathlib.Omega.{arith}
-use mathlib.Core.Path.{◌≡◌, refl, ◌∙◌}
-use lib.ListN.{length}
-use Rattle.judge.specs.Judge.{Judging}
+use mathlib.Core.Path.{refl, ◌∙◌}
 use Rattle.judge.specs.JudgeLaws.{judging_none, judging_then}
 use Rattle.judge.proofs.forward.judge_all.Goals as goal
 use Rattle.judge.proofs.forward.judge_all.Goals.{then-vacant, else-vacant}

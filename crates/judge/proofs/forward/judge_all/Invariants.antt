@@ -1,11 +1,8 @@
 -- `judge::forward::judge_all` meets its contract: what is known stays right as each node is judged in turn. Assumes nothing.
 use Prim.Native.Nat.{◌+◌, ◌-◌}
-use native.Mathlib.Omega.{arith}
-use mathlib.Core.Logic.{⊎_elim}
-use mathlib.Core.Path.{◌≡◌, refl, ◌∙◌}
+use mathlib.Core.Path.{◌≡◌}
 use lib.ListN.{length}
 use Rattle.judge.specs.Judge.{Judging}
-use Rattle.judge.specs.JudgeLaws.{judging_none, judging_then}
 use Rattle.judge.proofs.forward.judge_all.Given as goal
 
 abbrev pub invariant-loop-k : goal.invariant-loop-k

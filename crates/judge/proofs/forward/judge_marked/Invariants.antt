@@ -1,10 +1,8 @@
 -- `judge::forward::judge_marked` meets its contract: what is known stays right whichever nodes are judged. Assumes nothing.
 use Prim.Native.Nat.{◌+◌, ◌-◌}
-use native.Mathlib.Omega.{arith}
-use mathlib.Core.Path.{◌≡◌, refl, ◌∙◌}
+use mathlib.Core.Path.{◌≡◌}
 use lib.ListN.{length}
 use Rattle.judge.specs.Judge.{Judging}
-use Rattle.judge.specs.JudgeLaws.{judging_none, judging_then}
 use Rattle.judge.proofs.forward.judge_marked.Given as goal
 
 abbrev pub invariant-loop-k : goal.invariant-loop-k

@@ -1,5 +1,4 @@
 -- `judge::forward::judge_next` meets its contract. Assumes nothing.
-use borrow.Author.Rules.{rules}
 use Rattle.judge.proofs.forward.judge_next.Goals as goal
 
 pub judge_vacant-requires : goal.judge_vacant-requires

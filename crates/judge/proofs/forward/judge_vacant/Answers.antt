@@ -1,6 +1,5 @@
 -- `judge::forward::judge_vacant` meets its contract. Assumes nothing.
 use native.Mathlib.Omega.{arith}
-use borrow.Author.Rules.{rules}
 use Rattle.judge.specs.JudgeLaws.{judging_put}
 use Rattle.judge.proofs.forward.judge_vacant.Goals as goal
 

@@ -1,5 +1,4 @@
 -- `judge::forward::keep` meets its contract. Assumes nothing.
-use borrow.Author.Rules.{rules}
 use Rattle.judge.specs.JudgeLaws.{judging_put}
 use Rattle.judge.proofs.forward.keep.Goals as goal
 

@@ -1,7 +1,6 @@
 -- `judge::forward::leaf` meets its contract. Assumes nothing.
 use native.Mathlib.Omega.{arith}
 use mathlib.Core.Path.{refl}
-use borrow.Author.Rules.{rules}
 use Rattle.judge.proofs.forward.leaf.Goals as goal
 
 pub returns-then-op-lt2 : goal.returns-then-op-lt2

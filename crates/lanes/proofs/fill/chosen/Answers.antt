@@ -1,7 +1,6 @@
 -- `lanes::fill::chosen` meets its contract. Assumes nothing.
 use mathlib.Core.Logic.{inl, inr, ⊎_elim}
 use mathlib.Core.Path.{refl}
-use borrow.Author.Rules.{rules}
 use Rattle.lanes.proofs.fill.chosen.Goals as goal
 
 pub returns-then-t-y : goal.returns-then-t-y

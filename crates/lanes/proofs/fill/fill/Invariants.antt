@@ -1,10 +1,7 @@
 -- `lanes::fill::fill` meets its contract: each marked node in turn. Assumes nothing.
 use Prim.Native.Nat.{◌+◌, ◌-◌}
-use native.Mathlib.Omega.{arith}
-use mathlib.Core.Logic.{⊎_elim}
-use mathlib.Core.Path.{◌≡◌, refl, sym, ◌∙◌}
+use mathlib.Core.Path.{◌≡◌}
 use lib.ListN.{length}
-use Rattle.lanes.specs.FillLaws.{filled_none, filled_next, filled_skip, filled_ripe}
 use Rattle.lanes.specs.Fill.{Filled}
 use Rattle.lanes.proofs.fill.fill.Given as goal
 

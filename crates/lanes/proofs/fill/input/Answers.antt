@@ -1,5 +1,4 @@
 -- `lanes::fill::input` meets its contract. Assumes nothing.
-use borrow.Author.Rules.{rules}
 use native.Mathlib.Omega.{arith}
 use mathlib.Core.Path.{refl}
 use Rattle.lanes.proofs.fill.input.Goals as goal

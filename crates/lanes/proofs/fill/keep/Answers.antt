@@ -2,7 +2,6 @@
 use native.Mathlib.Omega.{arith}
 use mathlib.Core.Path.{refl}
 use lib.ListN.{length-set}
-use borrow.Author.Rules.{rules}
 use Rattle.lanes.specs.Fill.{stored}
 use Rattle.lanes.proofs.fill.keep.Goals as goal
 

@@ -1,7 +1,6 @@
 -- `lanes::fill::next` meets its contract: a value that is known, or the row that follows from those before. Assumes nothing.
 use native.Mathlib.Omega.{arith}
 use mathlib.Core.Path.{sym, ◌∙◌}
-use borrow.Author.Rules.{rules}
 use Rattle.net.specs.Layout.{val}
 use Rattle.lanes.specs.FillLaws.{added, row_known}
 use Rattle.lanes.proofs.fill.next.Goals as goal

@@ -1,7 +1,6 @@
 -- `lanes::fill::row_of` meets its contract: one law for each kind of node. Assumes nothing.
 use native.Mathlib.Omega.{arith}
 use mathlib.Core.Path.{refl}
-use borrow.Author.Rules.{rules}
 use Rattle.net.specs.Layout.{reads-low, names-below, joins-right}
 use Rattle.lanes.specs.FillLaws.{row_fixed, row_reads, row_flips, row_and, row_or, plain}
 use Rattle.lanes.proofs.fill.row_of.Goals as goal

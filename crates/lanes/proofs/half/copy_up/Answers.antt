@@ -1,5 +1,4 @@
 -- `lanes::half::copy_up` meets its contract. Assumes nothing.
-use borrow.Author.Rules.{rules}
 use Rattle.lanes.specs.Pattern.{copied}
 use Rattle.lanes.proofs.half.copy_up.Goals as goal
 

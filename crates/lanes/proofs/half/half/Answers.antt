@@ -1,5 +1,4 @@
 -- `lanes::half::half` meets its contract. Assumes nothing.
-use borrow.Author.Rules.{rules}
 use Rattle.lanes.specs.PatternLaws.{half-copied}
 use Rattle.lanes.proofs.half.half.Goals as goal
 

@@ -32,5 +32,5 @@ returns-in-4 c =
 pub returns-in_default : goal.returns-in_default
 unfolding low
 returns-in_default c =
-    let e : c.args.p ≡ 5 = omega (arith, c.requires, c.in_default.in_default-own.rest.1, c.in_default.in_default-own.rest.0.1, c.in_default.in_default-own.rest.0.0.1, c.in_default.in_default-own.rest.0.0.0.1, c.in_default.in_default-own.rest.0.0.0.0.1) in
+    let e : c.args.p ≡ 5 = omega arith in
     simp e

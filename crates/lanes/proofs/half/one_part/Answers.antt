@@ -1,5 +1,4 @@
 -- `lanes::half::one_part` meets its contract. Assumes nothing.
-use borrow.Author.Rules.{rules}
 use Rattle.lanes.specs.Pattern.{part}
 use Rattle.lanes.proofs.half.one_part.Goals as goal
 

@@ -1,6 +1,5 @@
 -- `lanes::half::stride` meets its contract. Assumes nothing.
 use native.Mathlib.Omega.{arith}
-use borrow.Author.Rules.{rules}
 use Rattle.words.specs.Mask.{one_shl}
 use Rattle.lanes.specs.PatternLaws.{stride_lt}
 use Rattle.lanes.proofs.half.stride.Goals as goal

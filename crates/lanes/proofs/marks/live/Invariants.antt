@@ -1,10 +1,7 @@
 -- `lanes::marks::live` meets its contract: downwards, what a marked node names is marked. Assumes nothing.
 use Prim.Native.Nat.{◌+◌, ◌≤◌}
-use native.Mathlib.Omega.{arith}
-use mathlib.Core.Path.{◌≡◌, refl, sym, ◌∙◌}
+use mathlib.Core.Path.{◌≡◌}
 use lib.ListN.{length}
-use Rattle.words.specs.Logic.{clash}
-use Rattle.lanes.specs.MarksLaws.{joined-here, closed_start, closed_next, closed_skip, closed_all}
 use Rattle.lanes.specs.Marks.{Closed}
 use Rattle.lanes.proofs.marks.live.Given as goal
 

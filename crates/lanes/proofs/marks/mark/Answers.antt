@@ -1,7 +1,6 @@
 -- `lanes::marks::mark` meets its contract. Assumes nothing.
 use Prim.Native.Nat.{◌%◌}
 use native.Mathlib.Omega.{arith}
-use borrow.Author.Rules.{rules}
 use Rattle.words.specs.Mask.{one_shl}
 use Rattle.lanes.specs.Marks.{joined}
 use Rattle.lanes.proofs.marks.mark.Goals as goal

@@ -1,6 +1,5 @@
 -- `lanes::marks::marked` meets its contract: the test is `bit` by definition. Assumes nothing.
 use mathlib.Core.Path.{refl}
-use borrow.Author.Rules.{rules}
 use Rattle.words.specs.Word.{bit}
 use Rattle.lanes.specs.Marks.{marked}
 use Rattle.lanes.proofs.marks.marked.Goals as goal

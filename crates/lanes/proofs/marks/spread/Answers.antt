@@ -3,7 +3,6 @@ use Prim.Native.Nat.{◌≤◌}
 use native.Mathlib.Omega.{arith}
 use mathlib.Core.Bool.{false}
 use mathlib.Core.Path.{refl, sym, ◌∙◌}
-use borrow.Author.Rules.{rules}
 use Rattle.words.specs.Logic.{clash}
 use Rattle.net.specs.Layout.{reads-low, names-below, joins-left, joins-right}
 use Rattle.lanes.specs.MarksLaws.{raised_none, founded_fixed, founded_reads, spread_flips, spread-joins}

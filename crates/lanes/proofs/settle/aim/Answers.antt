@@ -1,7 +1,6 @@
 -- `lanes::settle::aim` meets its contract. Assumes nothing.
 use native.Mathlib.Omega.{arith}
 use mathlib.Core.Path.{refl}
-use borrow.Author.Rules.{rules}
 use Rattle.lanes.proofs.settle.aim.Goals as goal
 
 pub returns-then-target-eq2 : goal.returns-then-target-eq2

@@ -1,5 +1,4 @@
 -- `lanes::settle::narrow` meets its contract: the steps in turn. Assumes nothing.
-use Rattle.lanes.specs.Settle.{Onward}
 use Rattle.lanes.specs.SettleLaws.{onward-none, onward-more}
 use Rattle.lanes.proofs.settle.narrow.Goals as goal
 

@@ -1,6 +1,5 @@
 -- `lanes::settle::narrow` meets its contract: the steps in turn. Assumes nothing.
 use Rattle.lanes.specs.Settle.{Onward}
-use Rattle.lanes.specs.SettleLaws.{onward-none, onward-more}
 use Rattle.lanes.proofs.settle.narrow.Given as goal
 
 abbrev pub invariant-loop-at : goal.invariant-loop-at

@@ -1,8 +1,6 @@
 -- `lanes::settle::seat` meets its contract: each variable gets the next position. Assumes nothing.
 use Prim.Native.Nat.{◌≤◌}
-use native.Mathlib.Omega.{arith}
-use Rattle.words.specs.Mask.{Sub, top_bit, top_less, bits_sub, sub_refl, sub_trans, without_sub}
-use Rattle.lanes.specs.FillLaws.{seated_set, seated_some}
+use Rattle.words.specs.Mask.{Sub}
 use Rattle.lanes.specs.Fill.{Seated}
 use Rattle.lanes.proofs.settle.seat.Given as goal
 

@@ -1,7 +1,6 @@
 -- `lanes::settle::settle` meets its contract. Assumes nothing.
 use mathlib.Core.Bool.{false}
 use mathlib.Core.Path.{refl}
-use borrow.Author.Rules.{rules}
 use Rattle.words.specs.Logic.{clash}
 use Rattle.lanes.specs.SettleLaws.{narrowed_row, narrowed_none, narrowed_all}
 use Rattle.lanes.proofs.settle.settle.Goals as goal

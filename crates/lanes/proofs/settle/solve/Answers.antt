@@ -1,7 +1,6 @@
 -- `lanes::settle::solve` meets its contract. Assumes nothing.
 use mathlib.Core.Bool.{false}
 use mathlib.Core.Path.{refl}
-use borrow.Author.Rules.{rules}
 use Rattle.words.specs.Logic.{clash}
 use Rattle.lanes.proofs.settle.solve.Goals as goal
 

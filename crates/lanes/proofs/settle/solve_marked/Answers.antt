@@ -2,7 +2,6 @@
 use native.Mathlib.Omega.{arith}
 use mathlib.Core.Bool.{false}
 use mathlib.Core.Path.{refl}
-use borrow.Author.Rules.{rules}
 use Rattle.words.specs.Logic.{clash}
 use Rattle.lanes.specs.FillLaws.{seated_none, row_at}
 use Rattle.lanes.proofs.settle.solve_marked.Goals as goal

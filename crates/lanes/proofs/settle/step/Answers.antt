@@ -1,5 +1,4 @@
 -- `lanes::settle::step` meets its contract. Assumes nothing.
-use borrow.Author.Rules.{rules}
 use Rattle.words.specs.Mask.{top_less}
 use Rattle.lanes.specs.SettleLaws.{onward_idle, onward-same, onward-low, onward-high}
 use Rattle.lanes.proofs.settle.step.Goals as goal

@@ -1,8 +1,5 @@
 -- `search::cycle::leaf` meets its contract. Assumes nothing.
-use Prim.Native.Nat.{ℕ, ◌^◌}
-use native.Mathlib.Omega.{arith}
-use mathlib.Core.Path.{◌≡◌, refl, sym, ◌∙◌, ap}
-use borrow.Author.Rules.{rules}
+use Rattle.std.proofs.Common.{ℕ, ◌^◌, refl, sym, ◌∙◌, ap, arith}
 use Rattle.words.specs.Word.{bit}
 use Rattle.net.specs.Layout.{val}
 use Rattle.search.proofs.cycle.leaf.Goals as goal

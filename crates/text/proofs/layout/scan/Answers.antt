@@ -35,7 +35,7 @@ returns-then-gap-eq0 c =
 
 pub overflow_add-start : goal.overflow_add-start
 overflow_add-start c =
-    omega (arith, c.lines-first.ensures.within, c.ending-gap.ensures, ending-within (drop c.lines-first.result.end c.args.text.now), length-drop c.lines-first.result.end c.args.text.now, c.ranges)
+    omega (arith, c.lines-first.ensures.within, c.ending-gap.ensures, ending-within (drop c.lines-first.result.end c.args.text.now), length-drop c.lines-first.result.end c.args.text.now)
 
 pub lines-second-requires : goal.lines-second-requires
 lines-second-requires c =

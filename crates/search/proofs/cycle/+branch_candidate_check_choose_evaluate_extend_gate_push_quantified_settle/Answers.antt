@@ -1,0 +1,249 @@
+-- The cycle of the search meets its contracts: each call is on a smaller node, or on the same node with fewer variables loose or a step further down.
+-- Assumes nothing.
+use Rattle.std.proofs.Common.{refl, sym, ◌∙◌, arith}
+use Rattle.words.specs.Mask.{top_bit, top_less}
+use Rattle.net.specs.Layout.{decides-some, reads-low, flips_below, joins-left, joins-right, binds-below}
+use Rattle.judge.specs.JudgeLaws.{judged-at, judging_none, judging_then}
+use Rattle.judge.specs.CellLaws.{trail_none}
+use Rattle.proxies.specs.Growing.{growing_same, growing_then}
+use Rattle.proxies.specs.KeptLaws.{recorded_told}
+use Rattle.search.specs.SearchLaws.{checked_flip, checked_left, checked_right, lent-after, body_less}
+use Rattle.search.specs.SearchLaws.{told_met, told_missed, told_leaf, told_flip, told-left, told-right, told-both, told-shown}
+use Rattle.search.specs.SearchLaws.{known-lost, posed_checked, posed_half, posed_body}
+use Rattle.imply.specs.ForceLaws.{forced_less, forced_met, posed_forced, pushed-lost}
+use Rattle.imply.specs.Halves.{first_met, second_met, half-lost, both-lost}
+use Rattle.search.proofs.cycle.+branch_candidate_check_choose_evaluate_extend_gate_push_quantified_settle.Goals as goal
+
+-- ---- branch
+
+pub branch-extend-low-requires : goal.branch-extend-low-requires
+branch-extend-low-requires t c =
+    let highest = c.highest-x.ensures in (
+      omega (arith, c.decreases, top_less highest.0 c.one-only.ensures c.without-rest.ensures),
+      (posed_half (top_bit highest.0) highest.1 c.one-only.ensures c.without-rest.ensures c.requires.posed c.fix-begun.ensures, c.requires.lent),
+    )
+
+pub branch-returns-then-low-clause-solved : goal.branch-returns-then-low-clause-solved
+branch-returns-then-low-clause-solved t c =
+    let highest = c.highest-x.ensures in
+    let low = c.extend-low.ensures.solved in (
+      rw c.if-low.true (first_met highest.0 highest.1 c.one-only.ensures c.without-rest.ensures c.requires.posed.free _ c.one_first-first.ensures c.fix-begun.ensures (rw c.if-low.true at low.0)),
+      low.1,
+    )
+
+pub branch-returns-then-not-has-clause-solved : goal.branch-returns-then-not-has-clause-solved
+branch-returns-then-not-has-clause-solved t c =
+    let highest = c.highest-x.ensures in
+    let low = c.extend-low.ensures.solved in (
+      rw c.if-low.false (half-lost highest.0 highest.1 c.one-only.ensures c.without-rest.ensures c.requires.posed.free _ c.fix-begun.ensures (rw c.if-low.false at low.0) (sym c.has.ensures ∙ c.if-not-has.true)),
+      low.1,
+    )
+
+pub branch-extend-high-requires : goal.branch-extend-high-requires
+branch-extend-high-requires t c =
+    let highest = c.highest-x.ensures in
+    let low = c.extend-low.ensures in (
+      omega (arith, c.decreases, top_less highest.0 c.one-only.ensures c.without-rest.ensures),
+      (
+        rw low.solved.1 (posed_half (top_bit highest.0) highest.1 c.one-only.ensures c.without-rest.ensures c.requires.posed c.fix-turned.ensures),
+        lent-after c.requires.lent low.growing c.extend-low.auto.wants,
+      ),
+    )
+
+pub branch-returns-then-high-clause-solved : goal.branch-returns-then-high-clause-solved
+branch-returns-then-high-clause-solved t c =
+    let highest = c.highest-x.ensures in
+    let low = c.extend-low.ensures.solved in
+    let high = c.extend-high.ensures.solved in (
+      rw c.if-high.true (second_met highest.0 highest.1 c.one-only.ensures c.without-rest.ensures c.requires.posed.free _ c.fix-begun.ensures (rw c.if-low.false at low.0) c.fix-turned.ensures (rw c.if-high.true at high.0)),
+      high.1 ∙ low.1,
+    )
+
+pub branch-returns-then-not-has-2-clause-solved : goal.branch-returns-then-not-has-2-clause-solved
+branch-returns-then-not-has-2-clause-solved t c =
+    let highest = c.highest-x.ensures in
+    let low = c.extend-low.ensures.solved in
+    let high = c.extend-high.ensures.solved in (
+      rw c.if-high.false (half-lost highest.0 highest.1 c.one-only.ensures c.without-rest.ensures c.requires.posed.free _ c.fix-turned.ensures (rw c.if-high.false at high.0) (sym c.has-2.ensures ∙ c.if-not-has-2.true)),
+      high.1 ∙ low.1,
+    )
+
+pub branch-returns-clause-solved : goal.branch-returns-clause-solved
+branch-returns-clause-solved t c =
+    let highest = c.highest-x.ensures in
+    let low = c.extend-low.ensures.solved in
+    let high = c.extend-high.ensures.solved in (
+      both-lost highest.0 highest.1 c.one-only.ensures c.without-rest.ensures c.requires.posed.free _ c.fix-begun.ensures (rw c.if-low.false at low.0) c.fix-turned.ensures (rw c.if-high.false at high.0) c.without.ensures,
+      high.1 ∙ low.1,
+    )
+
+-- ---- candidate
+
+pub candidate-check-c-requires : goal.candidate-check-c-requires
+candidate-check-c-requires t c = (omega (arith, c.decreases), ((c.requires.posed.here, posed_checked c.requires.posed refl), c.requires.lent))
+
+pub candidate-undo-requires : goal.candidate-undo-requires
+candidate-undo-requires t c = (_, c.check-c.ensures.told.1.keeps _ (trail_none refl refl))
+
+pub candidate-returns-then-c-target-clause-solved : goal.candidate-returns-then-c-target-clause-solved
+candidate-returns-then-c-target-clause-solved t c =
+    let told = c.check-c.ensures.told in
+    (told_met c.requires.posed told.0 c.if-c-target.true, c.undo.ensures _ (told.1.keeps _ (trail_none refl refl)))
+
+pub candidate-returns-clause-solved : goal.candidate-returns-clause-solved
+candidate-returns-clause-solved t c =
+    let told = c.check-c.ensures.told in
+    (told_missed c.requires.posed told.0 c.if-c-target.false, c.undo.ensures _ (told.1.keeps _ (trail_none refl refl)))
+
+-- ---- choose
+
+pub choose-extend-out-requires : goal.choose-extend-out-requires
+choose-extend-out-requires t c =
+    let checked = c.requires.checked in
+    let here = c.requires.is in (
+      body_less c.decreases (binds-below checked.ground here.0 here.1) (omega (arith, c.ranges)),
+      (posed_body checked here.0 here.1 c.decided-d.ensures c.free_all-inner.ensures.mask c.free_all-inner.ensures.values, c.requires.lent),
+    )
+
+pub choose-implicant-why-requires : goal.choose-implicant-why-requires
+choose-implicant-why-requires t c =
+    let checked = c.requires.checked in
+    let here = c.requires.is in (
+      checked.ground,
+      omega (arith, checked.ground.room, checked.here, binds-below checked.ground here.0 here.1),
+      omega (arith, c.requires.lent.long, c.extend-out.auto.wants),
+      rw c.decided-d.ensures (decides-some _),
+    )
+
+-- ---- evaluate
+
+pub evaluate-leaf-known-requires : goal.evaluate-leaf-known-requires
+evaluate-leaf-known-requires t c = (c.if-op-lt3.true, λ e. reads-low c.requires.i_bound.1.ground c.node_at-node.ensures.is e)
+
+pub evaluate-returns-then-op-lt3-clause-told : goal.evaluate-returns-then-op-lt3-clause-told
+evaluate-returns-then-op-lt3-clause-told t c =
+    let checked = c.requires.i_bound.1 in
+    (told_leaf checked c.node_at-node.ensures.is c.if-op-lt3.true c.leaf-known.ensures, judging_none checked.judged)
+
+pub evaluate-check-c-requires : goal.evaluate-check-c-requires
+evaluate-check-c-requires t c =
+    let checked = c.requires.i_bound.1 in
+    let here = c.node_at-node.ensures.is in (
+      omega (arith, c.decreases, flips_below checked.ground here c.if-op-eq3.true),
+      (checked_flip checked here c.if-op-eq3.true checked.judged, c.requires.lent),
+    )
+
+pub evaluate-returns-then-op-eq3-clause-told : goal.evaluate-returns-then-op-eq3-clause-told
+evaluate-returns-then-op-eq3-clause-told t c =
+    let told = c.check-c.ensures.told in
+    (told_flip c.requires.i_bound.1 c.node_at-node.ensures.is c.if-op-eq3.true told.0, told.1)
+
+-- ---- extend
+
+pub extend-undo-requires : goal.extend-undo-requires
+extend-undo-requires t c = rw c.settle-out.ensures.solved.1 (_, c.judge-head.ensures.keeps _ (trail_none refl refl))
+
+pub extend-returns-clause-solved : goal.extend-returns-clause-solved
+extend-returns-clause-solved t c =
+    let solved = c.settle-out.ensures.solved in
+    (solved.0, c.undo.ensures _ (rw solved.1 (c.judge-head.ensures.keeps _ (trail_none refl refl))))
+
+-- ---- gate
+
+pub gate-check-c-requires : goal.gate-check-c-requires
+gate-check-c-requires t c =
+    let checked = c.requires.i_bound.1 in
+    let here = c.requires.is in (
+      omega (arith, c.decreases, joins-left checked.ground here.0 here.1 here.2),
+      (checked_left checked here.0 here.1 here.2 checked.judged, c.requires.lent),
+    )
+
+pub gate-returns-then-c-d-clause-told : goal.gate-returns-then-c-d-clause-told
+gate-returns-then-c-d-clause-told t c =
+    let here = c.requires.is in
+    let left = c.check-c.ensures.told in
+    (told-left c.requires.i_bound.1 here.0 here.1 here.2 refl left.0 c.if-c-d.true, left.1)
+
+pub gate-check-e-requires : goal.gate-check-e-requires
+gate-check-e-requires t c =
+    let checked = c.requires.i_bound.1 in
+    let here = c.requires.is in
+    let left = c.check-c.ensures in (
+      omega (arith, c.decreases, joins-right checked.ground here.0 here.1 here.2),
+      (
+        checked_right checked here.0 here.1 here.2 left.told.1.judged,
+        lent-after c.requires.lent left.growing c.check-c.auto.wants,
+      ),
+    )
+
+pub gate-returns-then-e-d-clause-told : goal.gate-returns-then-e-d-clause-told
+gate-returns-then-e-d-clause-told t c =
+    let here = c.requires.is in
+    let left = c.check-c.ensures.told in
+    let right = c.check-e.ensures.told in
+    (told-right c.requires.i_bound.1 here.0 here.1 here.2 refl right.0 c.if-e-d.true, judging_then left.1 right.1)
+
+pub gate-returns-then-e-d-clause-growing : goal.gate-returns-then-e-d-clause-growing
+gate-returns-then-e-d-clause-growing t c = growing_then c.check-c.ensures.growing c.check-e.ensures.growing
+
+pub gate-returns-clause-told : goal.gate-returns-clause-told
+gate-returns-clause-told t c =
+    let here = c.requires.is in
+    let left = c.check-c.ensures.told in
+    let right = c.check-e.ensures.told in
+    (told-both c.requires.i_bound.1 here.0 here.1 here.2 refl left.0 c.if-c-d.false right.0 c.if-e-d.false, judging_then left.1 right.1)
+
+pub gate-returns-clause-growing : goal.gate-returns-clause-growing
+gate-returns-clause-growing t c = growing_then c.check-c.ensures.growing c.check-e.ensures.growing
+
+-- ---- push
+
+pub push-extend-out-requires : goal.push-extend-out-requires
+push-extend-out-requires t c =
+    let posed = c.requires.posed in
+    let force = c.force-f.ensures in (
+      omega (arith, c.decreases, forced_less force.0 posed.free c.without-rest.ensures refl refl (omega (arith, c.if-f-eq0.false))),
+      (
+        posed_forced posed force.0 c.without-rest.ensures refl refl,
+        lent-after c.requires.lent growing_same force.1,
+      ),
+    )
+
+pub push-returns-then-out-clause-solved : goal.push-returns-then-out-clause-solved
+push-returns-then-out-clause-solved t c =
+    let out = c.extend-out.ensures.solved in
+    (rw c.if-out.true (forced_met c.force-f.ensures.0 c.requires.posed.free c.without-rest.ensures refl refl (rw c.if-out.true at out.0)), out.1)
+
+pub push-returns-clause-solved : goal.push-returns-clause-solved
+push-returns-clause-solved t c =
+    let out = c.extend-out.ensures.solved in
+    (pushed-lost c.requires.posed c.force-f.ensures.0 c.without-rest.ensures refl refl (rw c.if-out.false at out.0) refl c.gather-why.ensures c.without.ensures refl, out.1)
+
+-- ---- quantified
+
+pub quantified-returns-then-known-ne0-clause-told : goal.quantified-returns-then-known-ne0-clause-told
+quantified-returns-then-known-ne0-clause-told t c =
+    let checked = c.requires.i_bound.1 in
+    let lent = c.requires.lent in
+    ((recorded_told checked.ground lent.faithful lent.tables checked.covers (omega (arith, c.if-known-ne0.true)) c.recorded-known.ensures).0, judging_none checked.judged)
+
+pub quantified-returns : goal.quantified-returns
+quantified-returns t c =
+    let checked = c.requires.i_bound.1 in
+    let here = c.requires.is in
+    let body = c.choose-s.ensures in
+    let told = told-shown checked here.0 here.1 _ _ body.solved.0 c.body_shows-shown.ensures in
+    let noted = c.note-after.ensures told.forced.explains in
+    record {
+      told = (told, rw body.solved.1 (judging_none checked.judged));
+      growing = growing_then body.growing noted.0;
+      noted = noted.1;
+    }
+
+-- ---- settle
+
+pub settle-returns-then-known-ne0-clause-solved : goal.settle-returns-then-known-ne0-clause-solved
+settle-returns-then-known-ne0-clause-solved t c =
+    let posed = c.requires.posed in
+    let known = c.known_at-known.ensures in
+    (known-lost posed (omega (arith, c.if-known-ne0.true)) (judged-at posed.judged known.0 known.1) c.if-known-target.false, refl)
