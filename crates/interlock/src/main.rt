@@ -1,11 +1,13 @@
 // The program: a text from standard input, and what is printed for it to standard output.
 #![tactic(auto)]
 
-ghost use Rattle.std.specs.Prelude.{◌≤◌, length};
+ghost use Rattle.std.specs.Prelude.{◌≤◌, length, OnOk, IfSome};
+ghost use Rattle.std.specs.Io.KnownBytes.{Appends};
 ghost use Rattle.text.specs.Prefix.{decisive};
 ghost use Rattle.response.specs.Printed.{printed, Starts};
 
-use libc::{STDIN_FILENO, STDOUT_FILENO};
+use std::io;
+use std::io::{Read, Write};
 
 // The most that is read.
 const TEXT_BYTES: usize = 65536;
@@ -28,10 +30,17 @@ fn text_room() -> [u8; TEXT_BYTES]
     [0; TEXT_BYTES]
 }
 
-fn main() {
+// The program over any reader and writer. Where the reader's bytes are known, what is printed for all of them, however many, is appended to what the writer holds.
+fn run<R: Read, W: Write>(input: &mut R, output: &mut W) -> io::Result<()>
+    ensures { OnOk result (IfSome (R.remaining input.old) (λ text. Appends (W.contents output.old) (W.contents output.new) (printed text))) }
+{
     let mut text = text_room();
-    let read = io::read_full(STDIN_FILENO, &mut text);
-    let mut output = [0u8; OUTPUT_BYTES];
-    let written = respond_whole(&text[..read], &mut output);
-    io::write_all(STDOUT_FILENO, &output[..written]);
+    let read = stdio::read_full(input, &mut text)?;
+    let mut lines = [0u8; OUTPUT_BYTES];
+    let written = respond_whole(&text[..read], &mut lines);
+    output.write_all(&lines[..written])
+}
+
+fn main(rt: HostRuntime) -> io::Result<()> {
+    run(&mut rt.stdin(), &mut rt.stdout())
 }

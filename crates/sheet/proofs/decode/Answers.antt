@@ -1,6 +1,5 @@
 -- `sheet::decode` meets its contract: the kind that the frame's fields say.
 use mathlib.Core.Path.{refl}
-use borrow.Author.Rules.{rules}
 use Rattle.sheet.proofs.decode.Goals as goal
 
 pub returns : goal.returns

@@ -1,4 +1,5 @@
 -- `sheet::kind_of` meets its contract: each arm of the match is one test of `kind_of`.
+use Rattle.std.proofs.Common.{arith}
 use borrow.Author.Tests.{ne_eqb}
 use Rattle.sheet.specs.Fields.{kind_of}
 use Rattle.sheet.proofs.kind_of.Goals as goal
@@ -42,11 +43,11 @@ pub returns-in_default : goal.returns-in_default
 unfolding kind_of
 returns-in_default c =
     simp (
-      ne_eqb _ _ c.in_default.in_default-own.rest.1,
-      ne_eqb _ _ c.in_default.in_default-own.rest.0.1,
-      ne_eqb _ _ c.in_default.in_default-own.rest.0.0.1,
-      ne_eqb _ _ c.in_default.in_default-own.rest.0.0.0.1,
-      ne_eqb _ _ c.in_default.in_default-own.rest.0.0.0.0.1,
-      ne_eqb _ _ c.in_default.in_default-own.rest.0.0.0.0.0.1,
-      ne_eqb _ _ c.in_default.in_default-own.rest.0.0.0.0.0.0.1,
+      ne_eqb c.args.f.k 1 (λ e. omega arith),
+      ne_eqb c.args.f.k 2 (λ e. omega arith),
+      ne_eqb c.args.f.k 3 (λ e. omega arith),
+      ne_eqb c.args.f.k 4 (λ e. omega arith),
+      ne_eqb c.args.f.k 5 (λ e. omega arith),
+      ne_eqb c.args.f.k 6 (λ e. omega arith),
+      ne_eqb c.args.f.k 7 (λ e. omega arith),
     )

@@ -1,7 +1,6 @@
 -- `net::decode::head` meets its contract. Assumes nothing.
 use lib.ListN.{length-set}
 use native.Mathlib.Omega.{arith}
-use borrow.Author.Rules.{rules}
 use Rattle.net.proofs.decode.head.Goals as goal
 
 pub bounds-net-1 : goal.bounds-net-1

@@ -5,7 +5,6 @@ use borrow.Author.Tests.{lt-ltb}
 use Rattle.form.specs.Form.{form_of}
 use Rattle.sheet.specs.Fields.{sheet_of, frames-of}
 use Rattle.net.specs.LoadLaws.{loading_none, loaded_net}
-use borrow.Author.Rules.{rules}
 use Rattle.net.proofs.decode.load.Goals as goal
 
 pub load_frames-requires : goal.load_frames-requires

@@ -7,7 +7,6 @@ use Rattle.sheet.specs.Fields.{Sheet, sheet_of, frames}
 use Rattle.sheet.specs.Reader.{read_by, after, following_in}
 use Rattle.sheet.specs.declared.reader.Reader.{Reader}
 use Rattle.net.specs.Load.{Loading}
-use Rattle.net.specs.declared.decode.Pass.{Pass}
 use Rattle.net.proofs.decode.load_frames.Goals as goal
 
 -- frame k is next, and more says whether there is one

@@ -3,7 +3,6 @@ use Rattle.net.specs.Load.{bound_of}
 use Rattle.sheet.specs.Frames.{Fit}
 use mathlib.Core.Path.{subst}
 use native.Mathlib.Omega.{arith}
-use borrow.Author.Rules.{rules}
 use Rattle.net.proofs.decode.mask_of.Goals as goal
 
 pub range_word-requires : goal.range_word-requires

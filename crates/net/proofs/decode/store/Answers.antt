@@ -5,7 +5,6 @@ use lib.Dec.{ltb}
 use lib.ListN.{length}
 use Rattle.sheet.specs.Fields.{frames-of}
 use Rattle.net.specs.LoadLaws.{loading_fit, loading_next}
-use borrow.Author.Rules.{rules}
 use Rattle.net.proofs.decode.store.Goals as goal
 
 pub word_of-requires : goal.word_of-requires

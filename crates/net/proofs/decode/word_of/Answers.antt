@@ -6,7 +6,6 @@ use Rattle.net.specs.Net.{node_of}
 use Rattle.sheet.specs.Frames.{Fit}
 use mathlib.Core.Path.{◌∙◌, subst}
 use native.Mathlib.Omega.{arith}
-use borrow.Author.Rules.{rules}
 use Rattle.net.proofs.decode.word_of.Goals as goal
 
 pub word-requires : goal.word-requires

@@ -1,7 +1,5 @@
 -- `net::links::link` meets its contract. The invariant: so far the net has other links only. Assumes nothing.
-use Prim.Native.Nat.{◌-◌}
 use native.Mathlib.Omega.{arith}
-use Rattle.net.specs.Link.{Linked}
 use Rattle.net.specs.LinkLaws.{linked_refl, linked_trans, linked_ground}
 use Rattle.net.proofs.links.link.Goals as goal
 

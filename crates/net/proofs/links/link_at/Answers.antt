@@ -2,7 +2,6 @@
 use native.Mathlib.Omega.{arith}
 use Rattle.net.specs.Layout.{reads-low, names-below, joins-right}
 use Rattle.net.specs.LinkLaws.{linked_trans, linked_ground}
-use borrow.Author.Rules.{rules}
 use Rattle.net.proofs.links.link_at.Goals as goal
 
 pub link_variable-requires-then-node-eq2 : goal.link_variable-requires-then-node-eq2

@@ -3,7 +3,6 @@ use native.Mathlib.Omega.{arith}
 use mathlib.Core.Path.{◌∙◌, ap}
 use Rattle.net.specs.Link.{low_part}
 use Rattle.net.specs.LinkLaws.{linked_trans, linked_ground}
-use borrow.Author.Rules.{rules}
 use Rattle.net.proofs.links.link_right.Goals as goal
 
 pub relink-requires : goal.relink-requires

@@ -3,7 +3,6 @@ use native.Mathlib.Omega.{arith}
 use mathlib.Core.Path.{refl, ◌∙◌, ap}
 use Rattle.net.specs.Link.{low_part}
 use Rattle.net.specs.LinkLaws.{linked_trans, linked_reader}
-use borrow.Author.Rules.{rules}
 use Rattle.net.proofs.links.link_variable.Goals as goal
 
 pub relink-requires : goal.relink-requires

@@ -1,7 +1,6 @@
 -- `net::links::next_user` meets its contract: a word has 64 bits. Assumes nothing.
 use Prim.Native.Nat.{◌+◌, ◌*◌}
 use native.Mathlib.Omega.{arith}
-use borrow.Author.Rules.{rules}
 use Rattle.net.proofs.links.next_user.Goals as goal
 
 pub returns : goal.returns

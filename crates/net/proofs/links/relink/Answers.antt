@@ -1,7 +1,6 @@
 -- `net::links::relink` meets its contract. Assumes nothing.
 use mathlib.Core.Path.{refl}
 use Rattle.net.specs.LinkLaws.{linked_relink}
-use borrow.Author.Rules.{rules}
 use Rattle.net.proofs.links.relink.Goals as goal
 
 pub returns : goal.returns

@@ -1,7 +1,6 @@
 -- `net::links::with_left` meets its contract. Assumes nothing.
 use native.Mathlib.Omega.{arith}
 use Rattle.net.specs.Link.{low_part}
-use borrow.Author.Rules.{rules}
 use Rattle.net.proofs.links.with_left.Goals as goal
 
 pub returns : goal.returns

@@ -1,7 +1,6 @@
 -- `net::links::with_right` meets its contract. Assumes nothing.
 use native.Mathlib.Omega.{arith}
 use Rattle.net.specs.Link.{low_part}
-use borrow.Author.Rules.{rules}
 use Rattle.net.proofs.links.with_right.Goals as goal
 
 pub returns : goal.returns

@@ -1,7 +1,6 @@
 -- `net::node::changed` meets its contract. Assumes nothing.
 use mathlib.Core.Path.{refl}
 use Rattle.net.specs.Layout.{changed}
-use borrow.Author.Rules.{rules}
 use Rattle.net.proofs.node.changed.Goals as goal
 
 pub returns : goal.returns

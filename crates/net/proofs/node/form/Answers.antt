@@ -1,6 +1,5 @@
 -- `net::node::form` meets its contract: a net of more words than a narrow sheet's is a wide one's. Assumes nothing.
 use Rattle.net.specs.Layout.{net_form}
-use borrow.Author.Rules.{rules}
 use Rattle.net.proofs.node.form.Goals as goal
 
 pub returns : goal.returns

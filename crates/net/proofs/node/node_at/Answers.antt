@@ -4,7 +4,6 @@ use native.Mathlib.Omega.{arith}
 use mathlib.Core.Path.{ap}
 use lib.ListN.{get_or}
 use Rattle.net.specs.StoreLaws.{is_read, next_word}
-use borrow.Author.Rules.{rules}
 use Rattle.net.proofs.node.node_at.Goals as goal
 
 pub returns : goal.returns

@@ -3,7 +3,6 @@ use Prim.Native.Nat.{◌+◌, ◌*◌}
 use native.Mathlib.Omega.{arith}
 use lib.ListN.{length-set}
 use Rattle.net.specs.StoreLaws.{next_word}
-use borrow.Author.Rules.{rules}
 use Rattle.net.proofs.node.put.Goals as goal
 
 pub bounds-net-at-2 : goal.bounds-net-at-2

@@ -1,7 +1,6 @@
 -- `net::node::word` meets its contract. Assumes nothing.
 use mathlib.Core.Path.{refl}
 use Rattle.net.specs.StoreLaws.{word_node}
-use borrow.Author.Rules.{rules}
 use Rattle.net.proofs.node.word.Goals as goal
 
 pub returns : goal.returns

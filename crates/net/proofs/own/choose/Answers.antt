@@ -2,7 +2,6 @@
 use Rattle.net.specs.OwnLaws.{put_chosen}
 use mathlib.Core.Path.{ap}
 use Prim.Native.Nat.{ℕ, ◌+◌}
-use borrow.Author.Rules.{rules}
 use Rattle.net.proofs.own.choose.Goals as goal
 
 pub returns : goal.returns

@@ -1,6 +1,5 @@
 -- `net::own::forget` meets its contract. Assumes nothing.
 use Rattle.net.specs.OwnLaws.{put_forgotten}
-use borrow.Author.Rules.{rules}
 use Rattle.net.proofs.own.forget.Goals as goal
 
 pub returns : goal.returns

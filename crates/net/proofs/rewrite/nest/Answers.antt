@@ -1,10 +1,6 @@
 -- `net::rewrite::nest` meets its contract. The invariant: whatever sheet the net was of, it is of still. Assumes nothing.
-use Prim.Native.Nat.{◌-◌}
 use native.Mathlib.Omega.{arith}
-use mathlib.Core.Path.{◌≡◌, refl, ◌∙◌}
-use lib.ListN.{length}
-use Rattle.sheet.specs.Fields.{Sheet}
-use Rattle.net.specs.Sheet.{NetOf}
+use mathlib.Core.Path.{refl, ◌∙◌}
 use Rattle.net.proofs.rewrite.nest.Goals as goal
 
 pub frames-n-requires : goal.frames-n-requires

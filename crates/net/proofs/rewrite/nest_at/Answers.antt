@@ -3,7 +3,6 @@ use native.Mathlib.Omega.{arith}
 use mathlib.Core.Path.{sym, ◌∙◌}
 use Rattle.net.specs.Layout.{binds-below}
 use Rattle.net.specs.NestLaws.{nested_net}
-use borrow.Author.Rules.{rules}
 use Rattle.net.proofs.rewrite.nest_at.Goals as goal
 
 pub node_at-inner-requires : goal.node_at-inner-requires

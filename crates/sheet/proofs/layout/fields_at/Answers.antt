@@ -1,5 +1,4 @@
 -- `sheet::layout::fields_at` meets its contract: each form by its own leaf.
-use borrow.Author.Rules.{rules}
 use Rattle.sheet.proofs.layout.fields_at.Goals as goal
 
 pub returns-in-Narrow : goal.returns-in-Narrow

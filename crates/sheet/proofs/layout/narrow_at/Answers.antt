@@ -1,7 +1,6 @@
 -- `sheet::layout::narrow_at` meets its contract: the layout of four bytes.
 use borrow.Author.Tests.{lt-ltb, le-ltb}
 use Rattle.sheet.specs.Fields.{fields_at}
-use borrow.Author.Rules.{rules}
 use Rattle.sheet.proofs.layout.narrow_at.Goals as goal
 
 pub returns-then-number-bytes : goal.returns-then-number-bytes

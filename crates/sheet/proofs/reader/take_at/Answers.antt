@@ -2,7 +2,6 @@
 use mathlib.Core.Path.{sym}
 use native.Mathlib.Omega.{arith}
 use Rattle.sheet.specs.Reader.{takes_of, following_in, following-past}
-use borrow.Author.Rules.{rules}
 use Rattle.sheet.proofs.reader.take_at.Goals as goal
 
 pub returns-then-number-frames : goal.returns-then-number-frames

@@ -1,5 +1,4 @@
 -- `sheet::rules::bad_input` meets its contract.
-use borrow.Author.Rules.{rules}
 use Rattle.sheet.proofs.rules.bad_input.Goals as goal
 
 pub returns : goal.returns

@@ -3,7 +3,6 @@ use native.Mathlib.Omega.{arith}
 use borrow.Author.Tests.{eq-eqb, ne_eqb, lt-ltb, le-ltb}
 use Rattle.sheet.specs.Rules.{bad_range}
 use Rattle.form.specs.Form.{variables}
-use borrow.Author.Rules.{rules}
 use Rattle.sheet.proofs.rules.bad_range.Goals as goal
 
 pub returns-then-c-eq0 : goal.returns-then-c-eq0

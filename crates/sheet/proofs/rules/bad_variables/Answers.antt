@@ -1,6 +1,5 @@
 -- `sheet::rules::bad_variables` meets its contract, arm by arm.
 use Rattle.sheet.specs.Rules.{bad_variables}
-use borrow.Author.Rules.{rules}
 use Rattle.sheet.proofs.rules.bad_variables.Goals as goal
 
 pub returns-in-Never : goal.returns-in-Never

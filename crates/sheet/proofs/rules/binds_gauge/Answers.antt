@@ -2,7 +2,6 @@
 use borrow.Author.Tests.{ne_eqb}
 use Rattle.sheet.specs.Rules.{binds_gauge}
 use Rattle.sheet.specs.Check.{meet-bound, binds_second}
-use borrow.Author.Rules.{rules}
 use Rattle.sheet.proofs.rules.binds_gauge.Goals as goal
 
 pub returns-then-bound_word-seen-ne0 : goal.returns-then-bound_word-seen-ne0

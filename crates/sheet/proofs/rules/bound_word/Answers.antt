@@ -5,7 +5,6 @@ use Rattle.sheet.specs.Rules.{bad_variables}
 use Rattle.sheet.specs.Check.{bound_mask}
 use Rattle.form.specs.Form.{few-variables}
 use Rattle.sheet.specs.RuleLaws.{range-fits}
-use borrow.Author.Rules.{rules}
 use Rattle.sheet.proofs.rules.bound_word.Goals as goal
 
 pub range_word-requires : goal.range_word-requires

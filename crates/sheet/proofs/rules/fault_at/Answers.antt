@@ -1,5 +1,4 @@
 -- `sheet::rules::fault_at` meets its contract.
-use borrow.Author.Rules.{rules}
 use Rattle.sheet.proofs.rules.fault_at.Goals as goal
 
 pub returns : goal.returns

@@ -2,7 +2,6 @@
 use borrow.Author.Tests.{ne_eqb}
 use Rattle.sheet.specs.Rules.{named_both}
 use Rattle.sheet.specs.Check.{meet-input, named_second}
-use borrow.Author.Rules.{rules}
 use Rattle.sheet.proofs.rules.named_both.Goals as goal
 
 pub returns-then-named_input-seen-ne0 : goal.returns-then-named_input-seen-ne0

@@ -4,7 +4,6 @@ use Rattle.words.specs.Logic.{tests}
 use Rattle.sheet.specs.Rules.{bad_variables}
 use Rattle.sheet.specs.Check.{gauge_mask}
 use Rattle.form.specs.Form.{few-variables}
-use borrow.Author.Rules.{rules}
 use Rattle.sheet.proofs.rules.named_gauge.Goals as goal
 
 pub input_word-requires : goal.input_word-requires

@@ -1,7 +1,6 @@
 -- `sheet::rules::seen_after` meets its contract, word by word.
 use mathlib.Core.Path.{ap}
 use lib.Bits.{bit_or}
-use borrow.Author.Rules.{rules}
 use Rattle.sheet.proofs.rules.seen_after.Goals as goal
 
 pub returns : goal.returns

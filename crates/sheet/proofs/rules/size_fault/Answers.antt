@@ -5,7 +5,6 @@ use Rattle.sheet.specs.Cause.{first}
 use Rattle.sheet.specs.Rules.{length_causes}
 use native.Mathlib.Omega.{arith}
 use Rattle.form.specs.Form.{most_frames, frames}
-use borrow.Author.Rules.{rules}
 use Rattle.sheet.proofs.rules.size_fault.Goals as goal
 
 pub returns-then-len-eq0 : goal.returns-then-len-eq0

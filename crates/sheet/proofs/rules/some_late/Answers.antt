@@ -2,7 +2,6 @@
 use mathlib.Core.Bool.{or-false}
 use borrow.Author.Tests.{le-leb, lt-leb}
 use Rattle.sheet.specs.Rules.{some_late, names}
-use borrow.Author.Rules.{rules}
 use Rattle.sheet.proofs.rules.some_late.Goals as goal
 
 pub returns-in-Never : goal.returns-in-Never

@@ -1,7 +1,6 @@
 -- `sheet::rules::spare_set` meets its contract: the first field that is set decides.
 use mathlib.Core.Path.{sym, ◌∙◌}
 use Rattle.sheet.specs.Rules.{spare_set}
-use borrow.Author.Rules.{rules}
 use Rattle.sheet.proofs.rules.spare_set.Goals as goal
 
 pub returns-then-spare_at : goal.returns-then-spare_at

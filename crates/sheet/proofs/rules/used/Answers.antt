@@ -1,7 +1,6 @@
 -- `sheet::rules::used` meets its contract, arm by arm.
 use mathlib.Core.Path.{sym, ap}
 use Rattle.sheet.specs.Rules.{used}
-use borrow.Author.Rules.{rules}
 use Rattle.sheet.proofs.rules.used.Goals as goal
 
 pub returns-in-Never : goal.returns-in-Never

@@ -1,7 +1,6 @@
 -- `sheet::rules::variables_fault` meets its contract: each test in its order.
 use mathlib.Core.Path.{sym, ◌∙◌}
 use Rattle.sheet.specs.Check.{variables_fault}
-use borrow.Author.Rules.{rules}
 use Rattle.sheet.proofs.rules.variables_fault.Goals as goal
 
 pub returns-then-bad_variables : goal.returns-then-bad_variables

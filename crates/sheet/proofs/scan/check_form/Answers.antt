@@ -2,7 +2,6 @@
 use Rattle.sheet.specs.Fields.{sheet_of}
 use Rattle.sheet.specs.Check.{same_checks}
 use Rattle.sheet.specs.Pass.{size_none, size_checks, frames_check}
-use borrow.Author.Rules.{rules}
 use Rattle.sheet.proofs.scan.check_form.Goals as goal
 
 pub returns-then-number-ne0 : goal.returns-then-number-ne0

@@ -1,5 +1,4 @@
 -- `sheet::scan::check_frames` meets its contract: each form with words of its own.
-use borrow.Author.Rules.{rules}
 use Rattle.sheet.proofs.scan.check_frames.Goals as goal
 
 pub scan_narrow-requires : goal.scan_narrow-requires

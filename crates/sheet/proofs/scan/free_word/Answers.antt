@@ -3,7 +3,6 @@ use lib.ListN.{length}
 use mathlib.Core.Path.{subst}
 use Rattle.sheet.specs.Frames.{Fit}
 use Rattle.sheet.specs.Check.{free_word}
-use borrow.Author.Rules.{rules}
 use Rattle.sheet.proofs.scan.free_word.Goals as goal
 
 pub input_word-requires : goal.input_word-requires

@@ -1,7 +1,6 @@
 -- `sheet::scan::pass` meets its contract: the word goes to its place, and what the frame does to what is seen.
 use mathlib.Core.Path.{ap}
 use lib.ListN.{set}
-use borrow.Author.Rules.{rules}
 use Rattle.sheet.proofs.scan.pass.Goals as goal
 
 pub returns : goal.returns

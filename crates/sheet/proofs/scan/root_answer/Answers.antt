@@ -4,7 +4,6 @@ use borrow.Author.Tests.{eq-eqb, ne_eqb}
 use native.Mathlib.Nat.{lt_of_le_of_lt}
 use lib.Bits.{and_le_r}
 use Rattle.sheet.specs.Check.{meet-bits}
-use borrow.Author.Rules.{rules}
 use Rattle.sheet.proofs.scan.root_answer.Goals as goal
 
 pub returns-then-seen-word-ne0 : goal.returns-then-seen-word-ne0

@@ -1,7 +1,7 @@
 -- `sheet::scan::scan_frames` meets its contract: each turn takes the reader one frame on, and what holds before the turn holds at the next frame.
 use Rattle.std.proofs.Common.{◌≡◌, ℕ, ◌+◌, ◌-◌, ◌<◌, ◌∙◌, Bool, List, sym, ap, subst, arith}
 use Rattle.form.specs.Form.{form_of}
-use Rattle.sheet.specs.Fields.{Sheet, sheet_of, frames, kind}
+use Rattle.sheet.specs.Fields.{Sheet, sheet_of, frames}
 use Rattle.sheet.specs.Reader.{read_by, after, following_in}
 use Rattle.sheet.specs.Pass.{Scanning}
 use Rattle.sheet.specs.declared.reader.Reader.{Reader}

@@ -1,5 +1,5 @@
 -- `sheet::scan::scan_frames`: what holds before a turn of its loop, and what gets smaller.
-use Rattle.std.proofs.Common.{◌≡◌, ℕ, ◌-◌}
+use Rattle.std.proofs.Common.{◌≡◌, ◌-◌}
 use Rattle.form.specs.Form.{form_of}
 use Rattle.sheet.specs.Fields.{sheet_of, frames}
 use Rattle.sheet.specs.Pass.{Scanning}

@@ -6,7 +6,6 @@ use Rattle.sheet.specs.Fields.{sheet_of, frames-of}
 use Rattle.sheet.specs.Accepted.{none_sized}
 use Rattle.sheet.specs.Check.{same_checks}
 use Rattle.sheet.specs.Pass.{small_of, scan_starts, root_read}
-use borrow.Author.Rules.{rules}
 use Rattle.sheet.proofs.scan.scan_with.Goals as goal
 
 pub scan_frames-scan-requires : goal.scan_frames-scan-requires

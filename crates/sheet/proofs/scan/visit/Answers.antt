@@ -13,7 +13,6 @@ use Rattle.sheet.specs.Rules.{bad_variables, causes_of}
 use Rattle.sheet.specs.Check.{past_by}
 use Rattle.sheet.specs.declared.rules.Seen.{Seen}
 use Rattle.sheet.specs.Pass.{fault_clean, kind-room, kind-range, pass_read, scan_refuses, scan_passes}
-use borrow.Author.Rules.{rules}
 use Rattle.sheet.proofs.scan.visit.Goals as goal
 
 told : {F G : Form} (b : List ℕ) (k : ℕ) (w : Seen) {n : ℕ} → F ≡ G → n ≡ (first (causes_of (sheet_of F b) k (past_by w))).number → n ≡ (first (causes_of (sheet_of G b) k (past_by w))).number
