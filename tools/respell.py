@@ -20,6 +20,8 @@ WORKING = re.compile(r"/proofs/(?:.*/)?(?:Proof|Answers|Invariants)\.antt$")
 # A field that Rattle makes of a variable is so called.
 MADE = re.compile(r"-(?:is|fits|bits|end)$")
 OPERATORS = set("and or not add mul sub div mod pow le lt eq suc zero one".split())
+# Words that are taken today: a tactic's.
+TAKEN = {"ground": "grounded"}
 DOCS = re.compile(r"`[^`\n]+`")
 # A word of Rust that a clause may name: what has it keeps it.
 RUST = re.compile(r"\b(\w+): |\b(?:const|static) (\w+)")
@@ -93,6 +95,8 @@ def main():
             if path.suffix == ".antt" and (str(path) in declared[old] or re.search(rf"use [^\n]*\b{old}\b", text)) and not WORKING.search(str(path)):
                 new = re.sub(rf"(?<![^\s(){{}}.;,@\"«»`]){old}(?![^\s(){{}}.;,@\"«»`])", other, new)
         new = whole.sub(lambda found: turned[found[1]], new)
+        for old, other in TAKEN.items():
+            new = re.sub(rf"(?m)^(?!\s*--)(.*)$", lambda line: re.sub(rf"(?<![\w-]){old}(?![\w-])", other, line[1]), new)
         if new != text:
             path.write_text(new)
     # pages also name what port.py has turned already

@@ -82,16 +82,16 @@ module _ {s : Sheet} {net net₁ : List ℕ} {g y w : ℕ} (N : NetOf s net) (A 
   low = omega (arith, A.small, few-variables (net_form net))
 
   stored-input : packed net₁ ≡ replace (packed net) g (Reads y)
-  stored-input = stored_net S (omega (arith, A.here, N.ground.room)) ∙ ap (replace (packed net) g) (input-word is low)
+  stored-input = stored_net S (omega (arith, A.here, N.grounded.room)) ∙ ap (replace (packed net) g) (input-word is low)
 
   pub stored_ground : Ground net₁
   stored_ground =
       record {
         ordered = rw stored-input (absorb_ordered A.plan);
-        ranged = λ j. rw (stored-input, form_same net net₁ (stored-long S)) (ranged_replace (Sizes.variables (net_form net)) (packed net) g (Reads y) N.ground.ranged A.small j);
-        distinct = rw stored-input (distinct_reads (packed net) g y N.ground.distinct);
-        room = omega (arith, N.ground.room, stored-long S, stored-count S);
-        few = omega (arith, N.ground.few, stored-long S);
+        ranged = λ j. rw (stored-input, form_same net net₁ (stored-long S)) (ranged_replace (Sizes.variables (net_form net)) (packed net) g (Reads y) N.grounded.ranged A.small j);
+        distinct = rw stored-input (distinct_reads (packed net) g y N.grounded.distinct);
+        room = omega (arith, N.grounded.room, stored-long S, stored-count S);
+        few = omega (arith, N.grounded.few, stored-long S);
       }
 
 -- ---- the net of the sheet
@@ -116,7 +116,7 @@ module _ {s : Sheet} {net net₁ net₂ : List ℕ} {g y w n : ℕ} (N : NetOf s
   -- g itself is changed
   changed-g : changed net₂ g ≡ true
   unfolding changed
-  changed-g = D.noted.more g (ap (λ (x : ℕ). ltb 7 (x % 16)) (stored-first S (omega (arith, A.here, N.ground.room))) ∙ lt-ltb 7 (w % 16) (omega arith))
+  changed-g = D.noted.more g (ap (λ (x : ℕ). ltb 7 (x % 16)) (stored-first S (omega (arith, A.here, N.grounded.room))) ∙ lt-ltb 7 (w % 16) (omega arith))
 
   -- and whatever was
   changed-still : (k : ℕ) → changed net k ≡ true → changed net₂ k ≡ true
@@ -133,7 +133,7 @@ module _ {s : Sheet} {net net₁ net₂ : List ℕ} {g y w n : ℕ} (N : NetOf s
   formula-still : (k : ℕ) → k < frames_of net → changed net₂ k ≡ false → meaning M k ≡ formula_at net k
   unfolding still
   formula-still k l e =
-      meaning_closed (packed net) M N.ground.ordered ordered (still net₂) (frames_of net)
+      meaning_closed (packed net) M N.grounded.ordered ordered (still net₂) (frames_of net)
       (λ j i t. let c = off j t in
       let same = replace-other (packed net) g (Reads y) j (by_bool (eqb j g) (λ q. clash (changed net₂ j) (rw (eqb-true j g q) changed-g) c) (λ q. q)) in
       (same, subst (Names (still net₂)) (ap (λ (K : Net). K j) absorbed ∙ same) (D.closed j (omega (arith, stored-count S)) c)))
@@ -145,7 +145,7 @@ module _ {s : Sheet} {net net₁ net₂ : List ℕ} {g y w n : ℕ} (N : NetOf s
   pub absorbed_net : NetOf s net₂
   absorbed_net =
       record {
-        ground = noted_ground (stored_ground N A is S) D.noted;
+        grounded = noted_ground (stored_ground N A is S) D.noted;
         long = long ∙ N.long;
         count = count ∙ N.count;
         opens = D.noted.opens ∙ stored_opens S ∙ N.opens;

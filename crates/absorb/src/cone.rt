@@ -235,7 +235,7 @@ pub fn turns(
     frees: &[u64],
     words: &mut [u64],
 ) -> bool
-    requires ground { Ground net.now × FreeTable net.now frees.now (g + 1) × (y < 64) × (g < frames_of net.now) × (5 ≤ length sides.now) }
+    requires grounded { Ground net.now × FreeTable net.now frees.now (g + 1) × (y < 64) × (g < frames_of net.now) × (5 ≤ length sides.now) }
     requires g_in_bounds { (g < length slots.now) × (g < length frees.now) × (g < length words.old) }
     ensures { result ≡ true → Turns y (value (packed net.now) g) }
 {

@@ -69,7 +69,7 @@ fn flag(marked: bool) -> u8
 
 // Whether node k, or one below it but not below g, does not spare y.
 fn spoils(net: &[u64], k: usize, g: usize, y: u8, f: u64, marks: &[u8]) -> bool
-    requires ground { Ground net.now × (k < frames_of net.now) × (y < 64) × (k ≤ length marks.now) }
+    requires grounded { Ground net.now × (k < frames_of net.now) × (y < 64) × (k ≤ length marks.now) }
     requires by_index { (x : ℕ) → bit f x ≡ frees (packed net.now) g x }
     ensures { result ≡ false → Clean (λ j. Spares y (frees (packed net.now) g) (packed net.now j)) (packed net.now) g marks.now k }
 {
@@ -85,7 +85,7 @@ fn spoils(net: &[u64], k: usize, g: usize, y: u8, f: u64, marks: &[u8]) -> bool
 
 // Whether y is read below `body` through g only, and nothing on the way binds what g reads.
 pub fn inside(net: &[u64], body: usize, g: usize, y: u8, f: u64, marks: &mut [u8]) -> bool
-    requires ground { Ground net.now × (body < frames_of net.now) × (y < 64) × (body < length marks.old) }
+    requires grounded { Ground net.now × (body < frames_of net.now) × (y < 64) × (body < length marks.old) }
     requires by_index { (x : ℕ) → bit f x ≡ frees (packed net.now) g x }
     ensures { result ≡ true → Inside (packed net.now) body g y }
 {

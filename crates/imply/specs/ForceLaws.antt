@@ -149,7 +149,7 @@ module _ {net : List ℕ} {a t loose m w X U rest m' w' : ℕ} {cells whys : Lis
   pub posed_forced : Posed net a t rest m' w' cells
   posed_forced =
       record {
-        ground = P.ground;
+        grounded = P.grounded;
         here = P.here;
         target_some = P.target_some;
         target_low = P.target_low;

@@ -51,7 +51,7 @@ pub record Covers (net : List ℕ) (a z : ℕ) : Type 0 where
 -- a search of node a for the truth t: the cube m, w fixes and sets no variable of `loose`, all that the node reads is assigned or loose, and no
 -- quantifier below binds any of it
 pub record Posed (net : List ℕ) (a t loose m w : ℕ) (cells : List ℕ) : Type 0 where
-  pub ground : Ground net
+  pub grounded : Ground net
   pub here : a < frames_of net + 2
   pub target_some : 0 < t
   pub target_low : t < 3

@@ -72,7 +72,7 @@ fn pass_gate(
     wants: &mut [u64],
 )
     requires is { Is net.now k node.op node.left node.right node.mask × (4 ≤ node.op) × (node.op < 6) × (0 < want.value) × (want.value < 3) }
-    requires ground { Ground net.now × HasNode net.now k × Judged net.now cube.mask cube.values cells.now × (length net.now ≤ 67 + length wants.old) }
+    requires grounded { Ground net.now × HasNode net.now k × Judged net.now cube.mask cube.values cells.now × (length net.now ≤ 67 + length wants.old) }
     ensures { Passed net.now cube.mask cube.values k want.value want.reason wants.old wants.new }
 {
     let d = node.op - 3;
@@ -107,7 +107,7 @@ fn pass_quantifier(
     wants: &mut [u64],
 )
     requires is { Is net.now k node.op node.left node.right node.mask × (6 ≤ node.op) × (0 < want.value) × (want.value < 3) }
-    requires ground { Ground net.now × HasNode net.now k × Judged net.now cube.mask cube.values cells.now × (length net.now ≤ 67 + length wants.old) }
+    requires grounded { Ground net.now × HasNode net.now k × Judged net.now cube.mask cube.values cells.now × (length net.now ≤ 67 + length wants.old) }
     ensures { Passed net.now cube.mask cube.values k want.value want.reason wants.old wants.new }
 {
     if want.value == decided(node.op) {
@@ -129,7 +129,7 @@ fn pass(
     wants: &mut [u64],
 )
     requires is { Is net.now k node.op node.left node.right node.mask × (0 < want.value) × (want.value < 3) }
-    requires ground { Ground net.now × HasNode net.now k × Judged net.now cube.mask cube.values cells.now × (length net.now ≤ 67 + length wants.old) }
+    requires grounded { Ground net.now × HasNode net.now k × Judged net.now cube.mask cube.values cells.now × (length net.now ≤ 67 + length wants.old) }
     ensures { Passed net.now cube.mask cube.values k want.value want.reason wants.old wants.new }
 {
     let op = node.op;

@@ -115,7 +115,7 @@ linked_ground {net} {net'} G L =
 pub linked_net : {s : Sheet} {net net' : List ℕ} → Linked net net' → NetOf s net → NetOf s net'
 linked_net {s} {net} {net'} L N =
     record {
-      ground = linked_ground N.ground L;
+      grounded = linked_ground N.grounded L;
       long = L.long ∙ N.long;
       count = L.count ∙ N.count;
       opens = L.opens ∙ N.opens;

@@ -178,7 +178,7 @@ loaded_net {s} {net} {net'} {n} {free} {gs} C q L e h =
     let opens = headed_opens L free gs in
     let long = headed-long L free gs in
     rw (h, e) (record {
-      ground = record {
+      grounded = record {
         ordered = rw is (decoded-ordered (variables s) (kind s) C.ordered);
         ranged = λ k. rw (is, form_words s.form _ long) (decoded_ranged C k);
         distinct = rw is (decoded_distinct C);

@@ -35,22 +35,22 @@ module _ {s : Sheet} {net net' : List ℕ} {k op left right mask op' left' right
   both = Binds (eqb op 6) (bit_or mask mask') left'
 
   outer : packed net k ≡ Binds (eqb op 6) mask left
-  outer = is-binds N.ground I h
+  outer = is-binds N.grounded I h
 
   inner : packed net left ≡ Binds (eqb op 6) mask' left'
-  inner = rw same at (is-binds N.ground J (omega arith))
+  inner = rw same at (is-binds N.grounded J (omega arith))
 
   nested : packed net' ≡ replace (packed net) k both
-  nested = stored_net S (omega (arith, N.ground.room)) ∙ ap (replace (packed net) k) (W ∙ node_binds op left' 0 (bit_or mask mask') h)
+  nested = stored_net S (omega (arith, N.grounded.room)) ∙ ap (replace (packed net) k) (W ∙ node_binds op left' 0 (bit_or mask mask') h)
 
   nested_ground : Ground net'
   nested_ground =
       record {
-        ordered = rw nested (nest_ordered N.ground.ordered outer inner);
-        ranged = λ j. rw (nested, form_same net net' (stored-long S)) (ranged_replace (Sizes.variables (net_form net)) (packed net) k both N.ground.ranged tt j);
-        distinct = rw nested (nest_distinct N.ground.ordered outer inner N.ground.distinct);
-        room = omega (arith, N.ground.room, stored-long S, stored-count S);
-        few = omega (arith, N.ground.few, stored-long S);
+        ordered = rw nested (nest_ordered N.grounded.ordered outer inner);
+        ranged = λ j. rw (nested, form_same net net' (stored-long S)) (ranged_replace (Sizes.variables (net_form net)) (packed net) k both N.grounded.ranged tt j);
+        distinct = rw nested (nest_distinct N.grounded.ordered outer inner N.grounded.distinct);
+        room = omega (arith, N.grounded.room, stored-long S, stored-count S);
+        few = omega (arith, N.grounded.few, stored-long S);
       }
 
   unchanged : (j : ℕ) → changed net' j ≡ false → changed net j ≡ false
@@ -59,14 +59,14 @@ module _ {s : Sheet} {net net' : List ℕ} {k op left right mask op' left' right
   pub nested_net : NetOf s net'
   nested_net =
       record {
-        ground = nested_ground;
+        grounded = nested_ground;
         long = stored-long S ∙ N.long;
         count = stored-count S ∙ N.count;
         opens = stored_opens S ∙ N.opens;
         bounded = N.bounded;
-        each = λ j i q. rw nested (stands_trans (N.each j i (unchanged j q)) (nest_stands N.ground.ordered outer inner j));
-        ends = rw nested (serves_trans N.ends (stands_serves (nest_stands N.ground.ordered outer inner (last s))));
+        each = λ j i q. rw nested (stands_trans (N.each j i (unchanged j q)) (nest_stands N.grounded.ordered outer inner j));
+        ends = rw nested (serves_trans N.ends (stands_serves (nest_stands N.grounded.ordered outer inner (last s))));
         gauged = stored-gauged S ∙ N.gauged;
-        clear = rw (nested, stored_opens S) (nest_clear N.ground.ordered outer inner N.clear);
+        clear = rw (nested, stored_opens S) (nest_clear N.grounded.ordered outer inner N.clear);
         empty = λ i h. stored_other S i (λ e. omega (arith, stored-count S)) (λ e. omega (arith, stored-count S)) ∙ N.empty i (omega (arith, stored-count S));
       }

@@ -24,7 +24,7 @@ pub record Stacked (s : Sheet) (base net : List ℕ) (count used : ℕ) : Type 0
   pub net_of : NetOf s base
   pub some : 0 < frames_of base
   pub within : count ≤ 3
-  pub ground : Ground net
+  pub grounded : Ground net
   pub frames-same : frames_of net ≡ frames_of base
   pub long : length net ≡ length base
   -- the frames stand for what they stood for, and are changed or not as they were

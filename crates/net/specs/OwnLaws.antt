@@ -84,7 +84,7 @@ stacked_none {s} {net} N h = record {
   net_of = N;
   some = h;
   within = omega arith;
-  ground = N.ground;
+  grounded = N.grounded;
   frames-same = refl;
   long = refl;
   same = λ k l. refl;
@@ -111,7 +111,7 @@ module _ {s : Sheet} {base net : List ℕ} {i used d mask : ℕ} {net' : List �
   some-frames = omega (arith, S.some, S.frames-same)
 
   chosen_net : packed net' ≡ replace (packed net) place own
-  chosen_net = stored_net stored (omega (arith, S.ground.room)) ∙ ap (replace (packed net) place) C.node
+  chosen_net = stored_net stored (omega (arith, S.grounded.room)) ∙ ap (replace (packed net) place) C.node
 
   chosen_count : frames_of net' ≡ frames_of net
   chosen_count = stored-count stored
@@ -119,24 +119,24 @@ module _ {s : Sheet} {base net : List ℕ} {i used d mask : ℕ} {net' : List �
   chosen_distinct : Distinct (packed net')
   chosen_distinct =
       rw chosen_net
-      (distinct_replace (val d) (place - 1) S.ground.distinct
+      (distinct_replace (val d) (place - 1) S.grounded.distinct
       (clear-replace (val d) (place - 1) (S.clear inside fresh (place - 1)) (λ h. absurd (omega (arith, some-frames))))
-      (λ j e n y t h. absurd (fixed_binds (sym (S.behind j (omega (arith, S.frames-same, fit_at S.ground.ordered t))) ∙ t))))
+      (λ j e n y t h. absurd (fixed_binds (sym (S.behind j (omega (arith, S.frames-same, fit_at S.grounded.ordered t))) ∙ t))))
 
   pub chosen_ground : Ground net'
   chosen_ground =
       record {
-        ordered = rw chosen_net (ordered-replace (packed net) place own S.ground.ordered (omega (arith, some-frames)));
-        ranged = λ j. rw (chosen_net, form_same net net' (stored-long stored)) (ranged_replace (Sizes.variables (net_form net)) (packed net) place own S.ground.ranged tt j);
+        ordered = rw chosen_net (ordered-replace (packed net) place own S.grounded.ordered (omega (arith, some-frames)));
+        ranged = λ j. rw (chosen_net, form_same net net' (stored-long stored)) (ranged_replace (Sizes.variables (net_form net)) (packed net) place own S.grounded.ranged tt j);
         distinct = chosen_distinct;
-        room = omega (arith, S.ground.room, stored-long stored, chosen_count);
-        few = omega (arith, S.ground.few, stored-long stored);
+        room = omega (arith, S.grounded.room, stored-long stored, chosen_count);
+        few = omega (arith, S.grounded.few, stored-long stored);
       }
 
   -- the nodes before it stand for what they stood for
   pub chosen_same : (k : ℕ) → k < place → formula_at net' k ≡ formula_at net k
   chosen_same k h =
-      meaning-agree (packed net) (packed net') S.ground.ordered chosen_ground.ordered k
+      meaning-agree (packed net) (packed net') S.grounded.ordered chosen_ground.ordered k
       (λ j m. rw chosen_net (replace-other (packed net) place own j (ne_eqb j place (λ e. omega arith))))
 
   pub chosen_node : packed net' place ≡ Binds (val d) mask (place - 1)
@@ -152,7 +152,7 @@ module _ {s : Sheet} {base net : List ℕ} {i used d mask : ℕ} {net' : List �
     net_of = S.net_of;
     some = S.some;
     within = omega arith;
-    ground = chosen_ground;
+    grounded = chosen_ground;
     frames-same = chosen_count ∙ S.frames-same;
     long = stored-long stored ∙ S.long;
     same = λ k h. chosen_same k (omega (arith, S.frames-same)) ∙ S.same k h;

@@ -31,7 +31,7 @@ pub record Checked (s : Sheet) (free : ℕ) : Type 0 where
 
 -- the net of s: every node of a frame stands for it, or is changed, and behind the last frame all is empty
 pub record NetOf (s : Sheet) (net : List ℕ) : Type 0 where
-  pub ground : Ground net
+  pub grounded : Ground net
   pub long : length net ≡ net_words s.form
   pub count : frames_of net ≡ frames s
   pub opens : free_of net ≡ free_mask (variables s) (root s)

@@ -24,7 +24,7 @@ pub record Lent (net wants u : List ℕ) (cu : ℕ) (o : List ℕ) (co : ℕ) : 
 
 -- node i under a full candidate, or a quantifier of a question behind the frames
 pub record Checked (net : List ℕ) (i m w : ℕ) (cells : List ℕ) : Type 0 where
-  pub ground : Ground net
+  pub grounded : Ground net
   pub here : i ≤ frames_of net + 2
   pub covers : Covers net i m
   pub clear : Clear (packed net) i m

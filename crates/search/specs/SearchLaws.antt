@@ -38,7 +38,7 @@ module _ {net : List ℕ} {a t loose m w : ℕ} {cells : List ℕ} (P : Posed ne
 
   pub posed_cells : {cells' : List ℕ} → Judged net m w cells' → Posed net a t loose m w cells'
   posed_cells j = record {
-    ground = P.ground;
+    grounded = P.grounded;
     here = P.here;
     target_some = P.target_some;
     target_low = P.target_low;
@@ -52,7 +52,7 @@ module _ {net : List ℕ} {a t loose m w : ℕ} {cells : List ℕ} (P : Posed ne
   pub posed_checked : loose ≡ 0 → Checked net a m w cells
   posed_checked e =
       let same : bit_or m loose ≡ m = ext (bit_or m loose) m (λ k. bit-or m loose k ∙ or-none (bit m k) (bit loose k) (rw e (bit-none k))) in
-      record { ground = P.ground; here = omega (arith, P.here); covers = rw same at P.covers; clear = rw same at P.clear; judged = P.judged }
+      record { grounded = P.grounded; here = omega (arith, P.here); covers = rw same at P.covers; clear = rw same at P.clear; judged = P.judged }
 
 -- the value of a full candidate decides the search
 module _ {net : List ℕ} {a t loose m w v r : ℕ} {cells : List ℕ} (P : Posed net a t loose m w cells) (T : Told net m w a v r) where
@@ -69,7 +69,7 @@ module _ {net : List ℕ} {a t loose m w x p rest : ℕ} {cells : List ℕ} (L :
   posed_half F =
       let same = half-same L l ep er P.free F in
       record {
-        ground = P.ground;
+        grounded = P.grounded;
         here = P.here;
         target_some = P.target_some;
         target_low = P.target_low;
@@ -91,22 +91,22 @@ module _ {net : List ℕ} {i m w op left right mask : ℕ} {cells : List ℕ} (K
   told_leaf {v} {r} h f =
       told_of K.covers f.some f.low
       (by_bool (eqb op 0)
-      (λ e. let q = f.never (omega tests) in rw (q.0, q.1, f_fixed K.ground I (omega tests)) (word-never (bit w)))
+      (λ e. let q = f.never (omega tests) in rw (q.0, q.1, f_fixed K.grounded I (omega tests)) (word-never (bit w)))
       (λ e. by_bool (eqb op 1)
-      (λ e'. let q = f.always (omega tests) in rw (q.0, q.1, f-true K.ground I (omega tests)) (explains_neg (word-never (bit w))))
-      (λ e'. let q = f.reads (omega tests) in rw (f-reads K.ground I (omega tests), q.0, q.1) (word-input left (bit w)))))
+      (λ e'. let q = f.always (omega tests) in rw (q.0, q.1, f-true K.grounded I (omega tests)) (explains_neg (word-never (bit w))))
+      (λ e'. let q = f.reads (omega tests) in rw (f-reads K.grounded I (omega tests), q.0, q.1) (word-input left (bit w)))))
 
   pub told_flip : {v r : ℕ} → op ≡ 3 → Told net m w left v r → Told net m w i (3 - v) r
   told_flip {v} e T =
       told_of K.covers (omega (arith, T.forced.low)) (omega (arith, T.some))
-      (rw (f_flips K.ground I e, val_flip v T.some T.forced.low) (explains_neg T.forced.explains))
+      (rw (f_flips K.grounded I e, val_flip v T.some T.forced.low) (explains_neg T.forced.explains))
 
   -- a node that it names, all of whose variables it reads
   checked_named : {k : ℕ} {cells' : List ℕ} → k < i → ((x : ℕ) → free (formula_at net k) x ≡ true → free (formula_at net i) x ≡ true) → Judged net m w cells' → (k < frames_of net + 2) × Checked net k m w cells'
   checked_named l h j = (
     omega (arith, l, K.here),
     record {
-      ground = K.ground;
+      grounded = K.grounded;
       here = omega (arith, l, K.here);
       covers = record { all = λ x e. K.covers.all x (h x e) };
       clear = clear_less K.clear (omega (arith, l));
@@ -116,48 +116,48 @@ module _ {net : List ℕ} {i m w op left right mask : ℕ} {cells : List ℕ} (K
 
   pub checked_flip : {cells' : List ℕ} → op ≡ 3 → Judged net m w cells' → (left < frames_of net + 2) × Checked net left m w cells'
   unfolding free
-  checked_flip e j = checked_named (flips_below K.ground I e) (λ x h. ap (λ (f : Formula). free f x) (f_flips K.ground I e) ∙ h) j
+  checked_flip e j = checked_named (flips_below K.grounded I e) (λ x h. ap (λ (f : Formula). free f x) (f_flips K.grounded I e) ∙ h) j
 
   module _ (l : 4 ≤ op) (h : op < 6) where
     pub checked_left : {cells' : List ℕ} → Judged net m w cells' → (left < frames_of net + 2) × Checked net left m w cells'
     unfolding free
     checked_left j =
-        checked_named (joins-left K.ground I l h)
-        (λ x e. ap (λ (f : Formula). free f x) (f-joins K.ground I l h refl) ∙ or_left (free (formula_at net left) x) (free (formula_at net right) x) e) j
+        checked_named (joins-left K.grounded I l h)
+        (λ x e. ap (λ (f : Formula). free f x) (f-joins K.grounded I l h refl) ∙ or_left (free (formula_at net left) x) (free (formula_at net right) x) e) j
 
     pub checked_right : {cells' : List ℕ} → Judged net m w cells' → (right < frames_of net + 2) × Checked net right m w cells'
     unfolding free
     checked_right j =
-        checked_named (joins-right K.ground I l h)
-        (λ x e. ap (λ (f : Formula). free f x) (f-joins K.ground I l h refl) ∙ or_right (free (formula_at net left) x) (free (formula_at net right) x) e) j
+        checked_named (joins-right K.grounded I l h)
+        (λ x e. ap (λ (f : Formula). free f x) (f-joins K.grounded I l h refl) ∙ or_right (free (formula_at net left) x) (free (formula_at net right) x) e) j
 
     pub told-left : {d v r : ℕ} → d ≡ op - 3 → Told net m w left v r → v ≡ d → Told net m w i v r
     told-left {d} {v} ed T e =
-        told_of K.covers T.some T.forced.low (rw (f-joins K.ground I l h ed, e) (gate-left (formula_at net right) (rw e at T.forced.explains)))
+        told_of K.covers T.some T.forced.low (rw (f-joins K.grounded I l h ed, e) (gate-left (formula_at net right) (rw e at T.forced.explains)))
 
     pub told-right : {d v r : ℕ} → d ≡ op - 3 → Told net m w right v r → v ≡ d → Told net m w i v r
     told-right {d} {v} ed T e =
-        told_of K.covers T.some T.forced.low (rw (f-joins K.ground I l h ed, e) (gate-right (formula_at net left) (rw e at T.forced.explains)))
+        told_of K.covers T.some T.forced.low (rw (f-joins K.grounded I l h ed, e) (gate-right (formula_at net left) (rw e at T.forced.explains)))
 
     pub told-both : {d v r z q : ℕ} → d ≡ op - 3 → Told net m w left v r → (v ≡ d → ⊥) → Told net m w right z q → (z ≡ d → ⊥) → Told net m w i z (bit_or r q)
     told-both {d} {v} {r} {z} {q} ed S n T k =
         let e : v ≡ z = omega (arith, S.some, S.forced.low, T.some, T.forced.low) in
-        told_of K.covers T.some T.forced.low (rw (f-joins K.ground I l h ed) (word-both (val d) r q (rw e at S.forced.explains) T.forced.explains))
+        told_of K.covers T.some T.forced.low (rw (f-joins K.grounded I l h ed) (word-both (val d) r q (rw e at S.forced.explains) T.forced.explains))
 
   -- ---- a quantifier, from the search of its body
 
   module _ (l : 6 ≤ op) where
     -- no variable that it binds is assigned
     bound-free : Apart m mask
-    bound-free = apart-sym (K.clear.apart i (omega arith) (binds-is K.ground I l))
+    bound-free = apart-sym (K.clear.apart i (omega arith) (binds-is K.grounded I l))
 
     bound-clear : Clear (packed net) left mask
-    bound-clear = K.ground.distinct.below i (binds-is K.ground I l)
+    bound-clear = K.grounded.distinct.below i (binds-is K.grounded I l)
 
     pub posed_body : {d m' w' : ℕ} → d ≡ decides op → m' ≡ without m mask → w' ≡ without w mask → Posed net left d mask m' w' cells
     posed_body {d} ed em ew = record {
-      ground = K.ground;
-      here = omega (arith, K.here, binds-below K.ground I l);
+      grounded = K.grounded;
+      here = omega (arith, K.here, binds-below K.grounded I l);
       target_some = rw ed (decides-some op);
       target_low = rw ed (decides-low op);
       free = record { apart = rw em (without-apart m mask); clear = rw ew (without-apart w mask) };
@@ -165,15 +165,15 @@ module _ {net : List ℕ} {i m w op left right mask : ℕ} {cells : List ℕ} (K
         all = λ x e. rw em (bit-or (without m mask) mask x ∙ by_bool (bit mask x)
             (λ q. or_right (bit (without m mask) x) (bit mask x) q)
             (λ q. or_left (bit (without m mask) x) (bit mask x) (off-mask m mask x q
-            ∙ K.covers.all x (ap (λ (f : Formula). free f x) (f-binds K.ground I l) ∙ over-free (val (decides op)) mask (formula_at net left) x ∙ rw (e, q)))));
+            ∙ K.covers.all x (ap (λ (f : Formula). free f x) (f-binds K.grounded I l) ∙ over-free (val (decides op)) mask (formula_at net left) x ∙ rw (e, q)))));
       };
-      clear = rw em (clear_or (clear-sub (clear_less K.clear (omega (arith, binds-below K.ground I l))) (without_sub m mask)) bound-clear);
+      clear = rw em (clear_or (clear-sub (clear_less K.clear (omega (arith, binds-below K.grounded I l))) (without_sub m mask)) bound-clear);
       judged = judged-inner em ew bound-free K.judged;
     }
 
     told-found : {word r : ℕ} → Met (formula_at net left) (val (decides op)) (free_of net) mask (without w mask) word r → Told net m w i (decides op) (without r mask)
     told-found {word} {r} h =
-        told_of K.covers (decides-some op) (decides-low op) (rw (f-binds K.ground I l) (explains_set (mask_decided (val (decides op)) mask r h.explains) (bit w) (λ k q.
+        told_of K.covers (decides-some op) (decides-low op) (rw (f-binds K.grounded I l) (explains_set (mask_decided (val (decides op)) mask r h.explains) (bit w) (λ k q.
         let n = bits_apart (without-apart r mask) k q in
         ap (λ (y : ℕ). bit y k) h.is
         ∙ bit_plus (apart-sub (without-apart w mask) h.inside) k
@@ -182,7 +182,7 @@ module _ {net : List ℕ} {i m w op left right mask : ℕ} {cells : List ℕ} (K
 
     told-lost : {r : ℕ} → Lost (formula_at net left) (val (decides op)) mask (without w mask) r → Told net m w i (3 - decides op) r
     told-lost {r} h =
-        told_of K.covers (omega (arith, decides-low op)) (omega (arith, decides-some op)) (rw (f-binds K.ground I l, val_flip (decides op) (decides-some op) (decides-low op))
+        told_of K.covers (omega (arith, decides-low op)) (omega (arith, decides-some op)) (rw (f-binds K.grounded I l, val_flip (decides op) (decides-some op) (decides-low op))
         (explains_set (mask-undecided (val (decides op)) mask r h.explains h.apart) (bit w) (λ k q. off-mask w mask k (bits_apart h.apart k q))))
 
     pub told-shown : (found : Bool) (word : ℕ) {reason v r : ℕ} → Solved net left (decides op) mask (without w mask) found word reason → Shown op mask found reason v r → Told net m w i v r

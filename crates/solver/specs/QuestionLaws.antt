@@ -113,7 +113,7 @@ module _ {s : Sheet} {net : List ℕ} {t loose all some m w : ℕ} {u : List ℕ
   }
 
   pub asked_ground : Ground net'
-  asked_ground = P.stacked.ground
+  asked_ground = P.stacked.grounded
 
   pub asked-room : HasNode net' own
   asked-room = omega (arith, asked_ground.room, P.here, P.stacked.within, P.stacked.frames-same)
@@ -145,7 +145,7 @@ module _ {s : Sheet} {net : List ℕ} {t loose all some m w : ℕ} {u : List ℕ
 
   pub asked_checked : {cells : List ℕ} → Judged net' m w cells → Checked net' own m w cells
   asked_checked j = record {
-    ground = asked_ground;
+    grounded = asked_ground;
     here = omega (arith, P.here, P.stacked.within, P.stacked.frames-same);
     covers = record { all = covered };
     clear = P.stacked.clear A.assigned A.fixed own;

@@ -6,11 +6,11 @@ use Rattle.absorb.proofs.absorb_in.Goals as goal
 
 pub deep-word-requires : goal.deep-word-requires
 deep-word-requires c =
-    omega (arith, c.requires.0.1.ground.room)
+    omega (arith, c.requires.0.1.grounded.room)
 
 pub promising-requires : goal.promising-requires
 promising-requires c =
-    omega (arith, c.requires.0.1.ground.room)
+    omega (arith, c.requires.0.1.grounded.room)
 
 pub shape_of-frees-then-not-promising : goal.shape_of-frees-then-not-promising
 shape_of-frees-then-not-promising c =

@@ -10,7 +10,7 @@ use Rattle.absorb.proofs.may_absorb.Goals as goal
 
 pub frames-requires : goal.frames-requires
 frames-requires c =
-    omega (arith, c.requires.0.1.ground.room)
+    omega (arith, c.requires.0.1.grounded.room)
 
 pub returns-then-q-frames : goal.returns-then-q-frames
 returns-then-q-frames c =
@@ -26,7 +26,7 @@ returns-then-y-variables c =
 
 pub node_at-binder-requires : goal.node_at-binder-requires
 node_at-binder-requires c =
-    omega (arith, c.requires.0.1.ground.room, c.if-q-frames.false, c.frames.ensures)
+    omega (arith, c.requires.0.1.grounded.room, c.if-q-frames.false, c.frames.ensures)
 
 pub returns-then-binder-lt6 : goal.returns-then-binder-lt6
 returns-then-binder-lt6 c =
@@ -46,12 +46,12 @@ overflow_add-g c =
 
 pub free_words-requires : goal.free_words-requires
 free_words-requires c =
-    (c.requires.0.1.ground, omega (arith, c.if-q-frames.false, c.if-g-q.false, c.frames.ensures), omega (arith, c.if-q-frames.false, c.if-g-q.false, c.frames.ensures, c.requires.1.at-frees))
+    (c.requires.0.1.grounded, omega (arith, c.if-q-frames.false, c.if-g-q.false, c.frames.ensures), omega (arith, c.if-q-frames.false, c.if-g-q.false, c.frames.ensures, c.requires.1.at-frees))
 
 pub turns-requires : goal.turns-requires
 turns-requires c = record {
-  ground = (
-    c.requires.0.1.ground,
+  grounded = (
+    c.requires.0.1.grounded,
     c.free_words.ensures,
     small_low c.args.net.now c.form.ensures c.variables.ensures (omega (arith, c.if-y-variables.false)),
     omega (
@@ -90,7 +90,7 @@ returns-then-not-turns c =
 
 pub offset_bounds-frees-g : goal.offset_bounds-frees-g
 offset_bounds-frees-g c =
-    omega (arith, c.if-q-frames.false, c.if-g-q.false, c.frames.ensures, c.requires.0.1.ground.room, c.requires.0.1.ground.few)
+    omega (arith, c.if-q-frames.false, c.if-g-q.false, c.frames.ensures, c.requires.0.1.grounded.room, c.requires.0.1.grounded.few)
 
 pub bounds-frees-g : goal.bounds-frees-g
 bounds-frees-g c =
@@ -98,19 +98,19 @@ bounds-frees-g c =
 
 pub inside-requires : goal.inside-requires
 inside-requires c = record {
-  ground = (
-    c.requires.0.1.ground,
-    omega (arith, binds-below c.requires.0.1.ground c.node_at-binder.ensures.is (omega (arith, c.if-binder-lt6.false)), c.if-q-frames.false, c.frames.ensures),
+  grounded = (
+    c.requires.0.1.grounded,
+    omega (arith, binds-below c.requires.0.1.grounded c.node_at-binder.ensures.is (omega (arith, c.if-binder-lt6.false)), c.if-q-frames.false, c.frames.ensures),
     small_low c.args.net.now c.form.ensures c.variables.ensures (omega (arith, c.if-y-variables.false)),
     omega (
       arith,
-      binds-below c.requires.0.1.ground c.node_at-binder.ensures.is (omega (arith, c.if-binder-lt6.false)),
+      binds-below c.requires.0.1.grounded c.node_at-binder.ensures.is (omega (arith, c.if-binder-lt6.false)),
       c.if-q-frames.false,
       c.frames.ensures,
       c.requires.1.at_marks,
     ),
   );
-  by_index = free-at c.requires.0.1.ground c.free_words.ensures c.args.g (omega arith);
+  by_index = free-at c.requires.0.1.grounded c.free_words.ensures c.args.g (omega arith);
 }
 
 pub shape_of-frees-then-not-inside : goal.shape_of-frees-then-not-inside
@@ -131,7 +131,7 @@ returns-then-not-inside c =
 
 pub outside-requires : goal.outside-requires
 outside-requires c =
-    (c.requires.0.1.ground, omega (arith, c.if-g-q.false), omega (arith, c.if-q-frames.false, c.frames.ensures), omega (arith, c.requires.1.at_marks, c.inside.auto.marks))
+    (c.requires.0.1.grounded, omega (arith, c.if-g-q.false), omega (arith, c.if-q-frames.false, c.frames.ensures), omega (arith, c.requires.1.at_marks, c.inside.auto.marks))
 
 pub shape_of-frees-then-not-outside : goal.shape_of-frees-then-not-outside
 shape_of-frees-then-not-outside c =
@@ -163,7 +163,7 @@ shape_of-marks c =
 
 pub returns : goal.returns
 returns c =
-    λ e. absorbable c.requires.0.1.ground c.node_at-binder.ensures.is (omega (arith, c.if-binder-lt6.false)) (sym c.has.ensures ∙ c.if-not-has.false) (omega (
+    λ e. absorbable c.requires.0.1.grounded c.node_at-binder.ensures.is (omega (arith, c.if-binder-lt6.false)) (sym c.has.ensures ∙ c.if-not-has.false) (omega (
       arith,
       c.if-g-q.false,
     )) (omega (arith, c.if-q-frames.false, c.frames.ensures)) (small_form c.args.net.now c.form.ensures c.variables.ensures (omega (

@@ -5,15 +5,15 @@ use Rattle.absorb.proofs.sweep.Goals as goal
 
 pub frames-n-requires : goal.frames-n-requires
 frames-n-requires c =
-    omega (arith, c.requires.0.1.ground.room)
+    omega (arith, c.requires.0.1.grounded.room)
 
 pub rare-requires : goal.rare-requires
 rare-requires c =
-    omega (arith, c.requires.0.1.ground.room)
+    omega (arith, c.requires.0.1.grounded.room)
 
 pub overflow_add-tried : goal.overflow_add-tried
 overflow_add-tried c =
-    omega (arith, c.requires.0.1.ground.room, c.requires.0.1.ground.few, c.frames-n.ensures)
+    omega (arith, c.requires.0.1.grounded.room, c.requires.0.1.grounded.few, c.frames-n.ensures)
 
 pub loop-k-init : goal.loop-k-init
 loop-k-init c =

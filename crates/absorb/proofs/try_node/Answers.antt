@@ -9,7 +9,7 @@ try_word-tried-requires c =
 
 pub refresh-requires-then-tried : goal.refresh-requires-then-tried
 refresh-requires-then-tried c =
-    let N = c.try_word-tried.ensures c.requires.0.0 c.requires.0.1 in (N.ground, omega (arith, N.count, c.requires.0.1.count, c.requires.2), omega (arith, c.requires.1.at-frees, c.requires.2, c.refresh.auto.frees, c.try_word-tried.auto.frees))
+    let N = c.try_word-tried.ensures c.requires.0.0 c.requires.0.1 in (N.grounded, omega (arith, N.count, c.requires.0.1.count, c.requires.2), omega (arith, c.requires.1.at-frees, c.requires.2, c.refresh.auto.frees, c.try_word-tried.auto.frees))
 
 pub shape_of-frees-then-tried : goal.shape_of-frees-then-tried
 shape_of-frees-then-tried c =

@@ -5,7 +5,7 @@ use Rattle.absorb.proofs.try_variable.Goals as goal
 
 pub grow-growth-requires : goal.grow-growth-requires
 grow-growth-requires c =
-    (c.requires.0.1.ground, c.requires.2, c.requires.3, omega (arith, c.requires.1.at-frees, c.requires.2), omega (arith, c.requires.1.at_slots, c.requires.2), c.requires.1.at_sides)
+    (c.requires.0.1.grounded, c.requires.2, c.requires.3, omega (arith, c.requires.1.at-frees, c.requires.2), omega (arith, c.requires.1.at_slots, c.requires.2), c.requires.1.at_sides)
 
 pub shape_of-net-then-growth : goal.shape_of-net-then-growth
 shape_of-net-then-growth c =
@@ -49,7 +49,7 @@ returns-then-growth-eq0 c =
 
 pub binder-q-requires : goal.binder-q-requires
 binder-q-requires c =
-    (c.requires.0.1.ground, c.requires.3)
+    (c.requires.0.1.grounded, c.requires.3)
 
 pub try_absorb-requires : goal.try_absorb-requires
 try_absorb-requires c = (

@@ -9,16 +9,16 @@ use Rattle.imply.proofs.force.Goals as goal
 
 pub wipe-requires : goal.wipe-requires
 wipe-requires c =
-    omega (arith, c.requires.0.here, c.requires.0.ground.room, c.requires.2)
+    omega (arith, c.requires.0.here, c.requires.0.grounded.room, c.requires.2)
 
 pub offer-requires : goal.offer-requires
 offer-requires c =
-    named-fits (c.requires.0.ground, c.requires.0.ground.room, c.requires.0.judged, omega (arith, c.requires.2, c.wipe.ensures.same))
+    named-fits (c.requires.0.grounded, c.requires.0.grounded.room, c.requires.0.judged, omega (arith, c.requires.2, c.wipe.ensures.same))
     c.requires.0.here c.requires.0.target_low
 
 pub overflow_add-i : goal.overflow_add-i
 overflow_add-i c =
-    omega (arith, c.requires.0.here, c.requires.0.ground.room, c.requires.0.ground.few)
+    omega (arith, c.requires.0.here, c.requires.0.grounded.room, c.requires.0.grounded.few)
 
 pub loop-i-init : goal.loop-i-init
 loop-i-init c = (
@@ -34,7 +34,7 @@ overflow_sub-i c =
 
 pub force_at-f-requires : goal.force_at-f-requires
 force_at-f-requires c =
-    (c.requires.0.ground, omega (arith, c.requires.0.here, c.requires.0.ground.room, c.loop-i.invariant.2), c.requires.0.judged, c.loop-i.invariant.0.long)
+    (c.requires.0.grounded, omega (arith, c.requires.0.here, c.requires.0.grounded.room, c.loop-i.invariant.2), c.requires.0.judged, c.loop-i.invariant.0.long)
 
 pub loop-i-smaller : goal.loop-i-smaller
 loop-i-smaller c =

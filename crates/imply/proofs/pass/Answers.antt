@@ -12,18 +12,18 @@ returns-then-op-lt3 c =
 
 pub offer-requires : goal.offer-requires
 offer-requires c =
-    named-fits c.requires.ground (flips_below c.requires.ground.0 c.requires.is.0 c.if-op-eq3.true) (omega (arith, c.requires.is.1))
+    named-fits c.requires.grounded (flips_below c.requires.grounded.0 c.requires.is.0 c.if-op-eq3.true) (omega (arith, c.requires.is.1))
 
 pub returns-then-op-eq3 : goal.returns-then-op-eq3
 returns-then-op-eq3 c =
     record {
       same = c.offer.ensures.0;
-      keeps = λ a t W R. c.offer.ensures.1 _ a t _ _ W (required_flip c.requires.ground.0 c.requires.is.0 R c.requires.is.1 c.if-op-eq3.true);
+      keeps = λ a t W R. c.offer.ensures.1 _ a t _ _ W (required_flip c.requires.grounded.0 c.requires.is.0 R c.requires.is.1 c.if-op-eq3.true);
     }
 
 pub pass_gate-requires : goal.pass_gate-requires
 pass_gate-requires c =
-    ((c.requires.is.0, omega arith, omega arith, c.requires.is.1, c.requires.is.2), c.requires.ground)
+    ((c.requires.is.0, omega arith, omega arith, c.requires.is.1, c.requires.is.2), c.requires.grounded)
 
 pub returns-then-op-lt6 : goal.returns-then-op-lt6
 returns-then-op-lt6 c =
@@ -31,7 +31,7 @@ returns-then-op-lt6 c =
 
 pub pass_quantifier-requires : goal.pass_quantifier-requires
 pass_quantifier-requires c =
-    ((c.requires.is.0, omega arith, c.requires.is.1, c.requires.is.2), c.requires.ground)
+    ((c.requires.is.0, omega arith, c.requires.is.1, c.requires.is.2), c.requires.grounded)
 
 pub returns : goal.returns
 returns c =

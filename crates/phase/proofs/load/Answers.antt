@@ -9,11 +9,11 @@ absorb-requires c =
 
 pub link-requires : goal.link-requires
 link-requires c =
-    (c.absorb.ensures _ c.load.ensures).ground
+    (c.absorb.ensures _ c.load.ensures).grounded
 
 pub choose_phases-requires : goal.choose_phases-requires
 choose_phases-requires c =
-    linked_ground (c.absorb.ensures _ c.load.ensures).ground c.link.ensures
+    linked_ground (c.absorb.ensures _ c.load.ensures).grounded c.link.ensures
 
 pub returns : goal.returns
 returns c =

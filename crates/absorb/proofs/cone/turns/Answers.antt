@@ -20,7 +20,7 @@ overflow_add-g c =
 
 pub sides_ok-requires : goal.sides_ok-requires
 sides_ok-requires c =
-    (c.requires.ground.4, omega (arith, c.requires.g_in_bounds.1), c.requires.ground.2)
+    (c.requires.grounded.4, omega (arith, c.requires.g_in_bounds.1), c.requires.grounded.2)
 
 pub returns-then-not-sides_ok : goal.returns-then-not-sides_ok
 returns-then-not-sides_ok c =
@@ -32,7 +32,7 @@ overflow_add-g-2 c =
 
 pub lanes-requires : goal.lanes-requires
 lanes-requires c =
-    (c.requires.ground.0, omega (arith, c.requires.ground.3), omega (arith, c.requires.g_in_bounds.0), c.requires.ground.4, omega (arith, c.requires.g_in_bounds.2))
+    (c.requires.grounded.0, omega (arith, c.requires.grounded.3), omega (arith, c.requires.g_in_bounds.0), c.requires.grounded.4, omega (arith, c.requires.g_in_bounds.2))
 
 pub shape_of-words-then-not-lanes : goal.shape_of-words-then-not-lanes
 shape_of-words-then-not-lanes c =
@@ -56,7 +56,7 @@ shape_of-words-then-w-eq-EVEN c =
 
 pub returns-then-w-eq-EVEN : goal.returns-then-w-eq-EVEN
 returns-then-w-eq-EVEN c =
-    λ e. flips c.requires.ground.0 c.requires.ground.1 (c.sides_ok.ensures c.if-not-sides_ok.false) (c.lanes.ensures c.if-not-lanes.false) (λ k. (c.type_inv.words k).fits) (omega arith) (omega (
+    λ e. flips c.requires.grounded.0 c.requires.grounded.1 (c.sides_ok.ensures c.if-not-sides_ok.false) (c.lanes.ensures c.if-not-lanes.false) (λ k. (c.type_inv.words k).fits) (omega arith) (omega (
       arith,
       c.if-slots-g-eq0.false,
     )) c.if-w-eq-EVEN.true

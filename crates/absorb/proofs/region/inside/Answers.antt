@@ -13,17 +13,17 @@ loop-k-init c =
 
 pub spoils-requires : goal.spoils-requires
 spoils-requires c = record {
-  ground = (c.requires.ground.0, omega (arith, c.requires.ground.1), c.requires.ground.2, omega (arith, c.requires.ground.3, c.loop-k.invariant.2));
+  grounded = (c.requires.grounded.0, omega (arith, c.requires.grounded.1), c.requires.grounded.2, omega (arith, c.requires.grounded.3, c.loop-k.invariant.2));
   by_index = c.requires.by_index;
 }
 
 pub bounds-marks-k : goal.bounds-marks-k
 bounds-marks-k c =
-    omega (arith, c.requires.ground.3, c.loop-k.invariant.2)
+    omega (arith, c.requires.grounded.3, c.loop-k.invariant.2)
 
 pub overflow_add-k : goal.overflow_add-k
 overflow_add-k c =
-    omega (arith, c.requires.ground.3)
+    omega (arith, c.requires.grounded.3)
 
 pub loop-k-smaller : goal.loop-k-smaller
 loop-k-smaller c =
@@ -32,13 +32,13 @@ loop-k-smaller c =
 pub loop-k-preserved : goal.loop-k-preserved
 loop-k-preserved c = (
   omega arith,
-  marking_next c.requires.ground.0.ordered c.loop-k.invariant.1 (omega (arith, c.requires.ground.3, c.loop-k.invariant.2)) (λ e. c.spoils.ensures (c.flag-m.ensures e)),
+  marking_next c.requires.grounded.0.ordered c.loop-k.invariant.1 (omega (arith, c.requires.grounded.3, c.loop-k.invariant.2)) (λ e. c.spoils.ensures (c.flag-m.ensures e)),
   length-set c.loop-k.marks c.loop-k.k c.flag-m.result ∙ c.loop-k.invariant.2,
 )
 
 pub bounds-marks-body : goal.bounds-marks-body
 bounds-marks-body c =
-    omega (arith, c.requires.ground.3, c.loop-k.invariant.2)
+    omega (arith, c.requires.grounded.3, c.loop-k.invariant.2)
 
 pub shape_of-marks-then-marks-body-eq0 : goal.shape_of-marks-then-marks-body-eq0
 shape_of-marks-then-marks-body-eq0 c =
@@ -46,7 +46,7 @@ shape_of-marks-then-marks-body-eq0 c =
 
 pub returns-then-marks-body-eq0 : goal.returns-then-marks-body-eq0
 returns-then-marks-body-eq0 c =
-    λ e. marks_inside c.requires.ground.0.ordered c.loop-k.marks c.loop-k.invariant.1 (omega arith) c.if-marks-body-eq0.true
+    λ e. marks_inside c.requires.grounded.0.ordered c.loop-k.marks c.loop-k.invariant.1 (omega arith) c.if-marks-body-eq0.true
 
 pub shape_of-marks : goal.shape_of-marks
 shape_of-marks c =

@@ -13,11 +13,11 @@ returns-then-k-g c =
 
 pub node_at-node-requires : goal.node_at-node-requires
 node_at-node-requires c =
-    omega (arith, c.requires.ground.0.room, c.requires.ground.1)
+    omega (arith, c.requires.grounded.0.room, c.requires.grounded.1)
 
 pub spares-requires : goal.spares-requires
 spares-requires c =
-    c.requires.ground.2
+    c.requires.grounded.2
 
 pub returns-then-not-spares : goal.returns-then-not-spares
 returns-then-not-spares c =
@@ -25,7 +25,7 @@ returns-then-not-spares c =
 
 pub names_marked-requires : goal.names_marked-requires
 names_marked-requires c =
-    near_at c.requires.ground.0 c.node_at-node.ensures.is c.requires.ground.3
+    near_at c.requires.grounded.0 c.node_at-node.ensures.is c.requires.grounded.3
 
 pub returns : goal.returns
 returns c =

@@ -18,7 +18,7 @@ overflow_add-y c =
 
 pub put-requires : goal.put-requires
 put-requires c =
-    omega (arith, c.requires.0.1.ground.room, c.requires.1.here)
+    omega (arith, c.requires.0.1.grounded.room, c.requires.1.here)
 
 pub spread-requires : goal.spread-requires
 spread-requires c =

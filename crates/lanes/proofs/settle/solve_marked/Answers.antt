@@ -8,7 +8,7 @@ use Rattle.lanes.proofs.settle.solve_marked.Goals as goal
 
 pub live-reach-requires : goal.live-reach-requires
 live-reach-requires c =
-    (c.requires.0.ground, omega (arith, c.requires.0.here, c.requires.0.ground.room), c.requires.0.judged.long, c.requires.2)
+    (c.requires.0.grounded, omega (arith, c.requires.0.here, c.requires.0.grounded.room), c.requires.0.judged.long, c.requires.2)
 
 pub returns-then-reach : goal.returns-then-reach
 returns-then-reach c =
@@ -24,11 +24,11 @@ seat-requires c =
 
 pub fill-requires : goal.fill-requires
 fill-requires c =
-    (c.requires.0.ground, omega (arith, c.requires.0.here, c.requires.0.ground.room), omega (arith, c.requires.0.here, c.requires.0.ground.room, c.requires.1), omega (arith, c.requires.2, c.live-reach.auto.marks), c.requires.0.judged, c.live-reach.ensures c.if-reach.false)
+    (c.requires.0.grounded, omega (arith, c.requires.0.here, c.requires.0.grounded.room), omega (arith, c.requires.0.here, c.requires.0.grounded.room, c.requires.1), omega (arith, c.requires.2, c.live-reach.auto.marks), c.requires.0.judged, c.live-reach.ensures c.if-reach.false)
 
 pub row_at-row-requires : goal.row_at-row-requires
 row_at-row-requires c =
-    omega (arith, c.requires.0.here, c.requires.0.ground.room, c.requires.1, c.fill.ensures.1)
+    omega (arith, c.requires.0.here, c.requires.0.grounded.room, c.requires.1, c.fill.ensures.1)
 
 pub settle-requires : goal.settle-requires
 settle-requires c =

@@ -5,7 +5,7 @@ use Rattle.net.proofs.rewrite.nest.Goals as goal
 
 pub frames-n-requires : goal.frames-n-requires
 frames-n-requires c =
-    omega (arith, c.requires.1.ground.room)
+    omega (arith, c.requires.1.grounded.room)
 
 pub loop-k-init : goal.loop-k-init
 loop-k-init c =

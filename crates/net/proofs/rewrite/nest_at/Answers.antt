@@ -7,11 +7,11 @@ use Rattle.net.proofs.rewrite.nest_at.Goals as goal
 
 pub node_at-inner-requires : goal.node_at-inner-requires
 node_at-inner-requires c =
-    omega (arith, c.requires.1, c.requires.0.1.ground.room, binds-below c.requires.0.1.ground c.node_at-outer.ensures.is (omega arith))
+    omega (arith, c.requires.1, c.requires.0.1.grounded.room, binds-below c.requires.0.1.grounded c.node_at-outer.ensures.is (omega arith))
 
 pub put-requires : goal.put-requires
 put-requires c =
-    omega (arith, c.requires.1, c.requires.0.1.ground.room)
+    omega (arith, c.requires.1, c.requires.0.1.grounded.room)
 
 pub returns : goal.returns
 returns c =

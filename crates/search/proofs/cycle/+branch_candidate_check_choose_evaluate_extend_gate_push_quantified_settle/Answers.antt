@@ -101,7 +101,7 @@ pub choose-extend-out-requires : goal.choose-extend-out-requires
 choose-extend-out-requires t c =
     let checked = c.requires.checked in
     let here = c.requires.is in (
-      body_less c.decreases (binds-below checked.ground here.0 here.1) (omega (arith, c.ranges)),
+      body_less c.decreases (binds-below checked.grounded here.0 here.1) (omega (arith, c.ranges)),
       (posed_body checked here.0 here.1 c.decided-d.ensures c.free_all-inner.ensures.mask c.free_all-inner.ensures.values, c.requires.lent),
     )
 
@@ -109,8 +109,8 @@ pub choose-implicant-why-requires : goal.choose-implicant-why-requires
 choose-implicant-why-requires t c =
     let checked = c.requires.checked in
     let here = c.requires.is in (
-      checked.ground,
-      omega (arith, checked.ground.room, checked.here, binds-below checked.ground here.0 here.1),
+      checked.grounded,
+      omega (arith, checked.grounded.room, checked.here, binds-below checked.grounded here.0 here.1),
       omega (arith, c.requires.lent.long, c.extend-out.auto.wants),
       rw c.decided-d.ensures (decides-some _),
     )
@@ -118,7 +118,7 @@ choose-implicant-why-requires t c =
 -- ---- evaluate
 
 pub evaluate-leaf-known-requires : goal.evaluate-leaf-known-requires
-evaluate-leaf-known-requires t c = (c.if-op-lt3.true, λ e. reads-low c.requires.i_bound.1.ground c.node_at-node.ensures.is e)
+evaluate-leaf-known-requires t c = (c.if-op-lt3.true, λ e. reads-low c.requires.i_bound.1.grounded c.node_at-node.ensures.is e)
 
 pub evaluate-returns-then-op-lt3-clause-told : goal.evaluate-returns-then-op-lt3-clause-told
 evaluate-returns-then-op-lt3-clause-told t c =
@@ -129,7 +129,7 @@ pub evaluate-check-c-requires : goal.evaluate-check-c-requires
 evaluate-check-c-requires t c =
     let checked = c.requires.i_bound.1 in
     let here = c.node_at-node.ensures.is in (
-      omega (arith, c.decreases, flips_below checked.ground here c.if-op-eq3.true),
+      omega (arith, c.decreases, flips_below checked.grounded here c.if-op-eq3.true),
       (checked_flip checked here c.if-op-eq3.true checked.judged, c.requires.lent),
     )
 
@@ -154,7 +154,7 @@ pub gate-check-c-requires : goal.gate-check-c-requires
 gate-check-c-requires t c =
     let checked = c.requires.i_bound.1 in
     let here = c.requires.is in (
-      omega (arith, c.decreases, joins-left checked.ground here.0 here.1 here.2),
+      omega (arith, c.decreases, joins-left checked.grounded here.0 here.1 here.2),
       (checked_left checked here.0 here.1 here.2 checked.judged, c.requires.lent),
     )
 
@@ -169,7 +169,7 @@ gate-check-e-requires t c =
     let checked = c.requires.i_bound.1 in
     let here = c.requires.is in
     let left = c.check-c.ensures in (
-      omega (arith, c.decreases, joins-right checked.ground here.0 here.1 here.2),
+      omega (arith, c.decreases, joins-right checked.grounded here.0 here.1 here.2),
       (
         checked_right checked here.0 here.1 here.2 left.told.1.judged,
         lent-after c.requires.lent left.growing c.check-c.auto.wants,
@@ -225,7 +225,7 @@ pub quantified-returns-then-known-ne0-clause-told : goal.quantified-returns-then
 quantified-returns-then-known-ne0-clause-told t c =
     let checked = c.requires.i_bound.1 in
     let lent = c.requires.lent in
-    ((recorded_told checked.ground lent.faithful lent.tables checked.covers (omega (arith, c.if-known-ne0.true)) c.recorded-known.ensures).0, judging_none checked.judged)
+    ((recorded_told checked.grounded lent.faithful lent.tables checked.covers (omega (arith, c.if-known-ne0.true)) c.recorded-known.ensures).0, judging_none checked.judged)
 
 pub quantified-returns : goal.quantified-returns
 quantified-returns t c =

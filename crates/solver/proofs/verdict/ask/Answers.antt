@@ -14,7 +14,7 @@ returns-then-waiting-eq0 c =
 
 pub failed-requires : goal.failed-requires
 failed-requires c =
-    let G = (c.failing-s.ensures.settled c.requires.0 c.requires.1).1 in (rw c.failing-s.ensures.net_unchanged c.requires.1.net_of.ground, rw c.failing-s.ensures.net_unchanged (ready_some c.requires.1), rw (c.failing-s.ensures.net_unchanged, net-form c.requires.1.net_of) G.tables.over.fits)
+    let G = (c.failing-s.ensures.settled c.requires.0 c.requires.1).1 in (rw c.failing-s.ensures.net_unchanged c.requires.1.net_of.grounded, rw c.failing-s.ensures.net_unchanged (ready_some c.requires.1), rw (c.failing-s.ensures.net_unchanged, net-form c.requires.1.net_of) G.tables.over.fits)
 
 pub returns-then-s : goal.returns-then-s
 returns-then-s c =

@@ -14,7 +14,7 @@ solve-s-requires c =
 
 pub overflow_cast-last : goal.overflow_cast-last
 overflow_cast-last c =
-    omega (arith, c.frames-last.ensures, c.requires.1.net_of.ground.room, c.requires.1.net_of.ground.few)
+    omega (arith, c.frames-last.ensures, c.requires.1.net_of.grounded.room, c.requires.1.net_of.grounded.few)
 
 pub ensure-n-requires : goal.ensure-n-requires
 ensure-n-requires c = (
@@ -32,7 +32,7 @@ returns-then-s c =
 
 pub overflow_cast-last-2 : goal.overflow_cast-last-2
 overflow_cast-last-2 c =
-    omega (arith, c.frames-last.ensures, c.requires.1.net_of.ground.room, c.requires.1.net_of.ground.few)
+    omega (arith, c.frames-last.ensures, c.requires.1.net_of.grounded.room, c.requires.1.net_of.grounded.few)
 
 pub ensure-n-requires-2 : goal.ensure-n-requires-2
 ensure-n-requires-2 c = (
