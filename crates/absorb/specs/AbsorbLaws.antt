@@ -2,11 +2,14 @@
 use Rattle.std.specs.Prelude.{ℕ, ◌≡◌, Bool, true, false, not, eqb}
 use Rattle.std.proofs.Math.Path.{refl, sym}
 use Rattle.std.proofs.Common.{◌∙◌, ap, eqb-true}
-use Rattle.words.specs.Logic.{by_bool, clash, tests, and_both, or_cases, or_right, not-not}
+use Rattle.words.specs.Logic.{tests}
+use Rattle.words.proofs.Logic.{by_bool, clash, and_both, or_cases, or_right, not-not}
 use Rattle.words.specs.Word.{bit}
-use Rattle.formula.specs.Assignment.{Assignment, assign, only, assign-same, assign_other, assign_self, by_value}
-use Rattle.formula.specs.Formula.{Formula, truth, free, coincide}
-use Rattle.formula.specs.Over.{over-free}
+use Rattle.formula.specs.Assignment.{Assignment, assign, only}
+use Rattle.formula.proofs.Assignment.{assign-same, assign_other, assign_self, by_value}
+use Rattle.formula.specs.Formula.{Formula, truth, free}
+use Rattle.formula.proofs.Formula.{coincide}
+use Rattle.formula.proofs.Over.{over-free}
 use Rattle.net.specs.Net.{Reads, Binds, Net, meaning, value, frees, Ordered, at_reads, at-binds, replace, replace-here, replace-other, ordered-replace}
 use Rattle.net.specs.Stands.{Serves}
 use Rattle.absorb.specs.Absorb.{Turns, Absorb}

@@ -2,7 +2,8 @@
 use Rattle.std.specs.Prelude.{ℕ, zero, suc, ◌+◌, ◌-◌, ◌/◌, ◌^◌, ◌<◌, ◌≤◌, ◌≡◌, refl, cond, List, length, get_or, set, eqb, ltb}
 use Rattle.std.proofs.Common.{arith, sym, ◌∙◌, ap, subst, eqb-true}
 use Rattle.std.specs.Int.Bits.{bit_and, bit_xor}
-use Rattle.words.specs.Logic.{by_bool, tests}
+use Rattle.words.specs.Logic.{tests}
+use Rattle.words.proofs.Logic.{by_bool}
 use Rattle.words.specs.Word.{bit}
 use Rattle.net.specs.Net.{Node, node_of, node_fixed, node_reads, node_flips, node_joins, value, frees}
 use Rattle.net.specs.Layout.{packed, Ground, Is, reads-low, names-below, joins-right}

@@ -3,11 +3,13 @@ use Rattle.std.specs.Prelude.{ℕ, ◌<◌, ◌≡◌, Bool, ◌||◌, eqb}
 use Rattle.std.proofs.Math.Path.{refl, sym, ap, ap₂, fun_ext}
 use Rattle.std.proofs.Common.{◌∙◌, eqb-true}
 use Rattle.std.proofs.Math.Bool.{true, false, not}
-use Rattle.words.specs.Logic.{by_bool, clash, and_both, or_cases, or_left, or_right}
+use Rattle.words.proofs.Logic.{by_bool, clash, and_both, or_cases, or_left, or_right}
 use Rattle.words.specs.Word.{bit}
-use Rattle.formula.specs.Assignment.{Assignment, assign, join, On, assign-same, assign_other, assign_self}
+use Rattle.formula.specs.Assignment.{Assignment, assign, join, On}
+use Rattle.formula.proofs.Assignment.{assign-same, assign_other, assign_self}
 use Rattle.formula.specs.Formula.{Formula, truth, free}
-use Rattle.formula.specs.Over.{Beside, over, over-free, over-same}
+use Rattle.formula.specs.Over.{Beside, over}
+use Rattle.formula.proofs.Over.{over-free, over-same}
 use Rattle.net.specs.Net.{Node, Fixed, Reads, Flips, Joins, Binds, Net, build, meaning, value, frees, Fit, Ordered, meaning-is, at_node, upward}
 use Rattle.absorb.specs.Absorb.{Names, Spares}
 

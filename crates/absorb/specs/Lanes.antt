@@ -5,11 +5,16 @@ use Rattle.std.proofs.Math.Path.{sym, ap, ap₂}
 use Rattle.std.proofs.Math.Bool.{not}
 use Rattle.std.specs.Bool.{beq}
 use Rattle.std.specs.Int.Bits.{bit_and, bit_xor}
-use Rattle.words.specs.Logic.{by_bool, clash, tests, and_both}
-use Rattle.words.specs.Word.{bit, xorb, bit-and, bit-xor, bit-zero, bit-suc, bit_shr}
-use Rattle.words.specs.Mask.{mask_of, mask_of-lt, bit-mask_of}
-use Rattle.formula.specs.Assignment.{Assignment, assign, join, assign-same, assign_other}
-use Rattle.formula.specs.Formula.{Formula, truth, coincide}
+use Rattle.words.specs.Logic.{tests}
+use Rattle.words.proofs.Logic.{by_bool, clash, and_both}
+use Rattle.words.specs.Word.{bit, xorb}
+use Rattle.words.proofs.Word.{bit-and, bit-xor, bit-zero, bit-suc, bit_shr}
+use Rattle.words.specs.Mask.{mask_of}
+use Rattle.words.proofs.Mask.{mask_of-lt, bit-mask_of}
+use Rattle.formula.specs.Assignment.{Assignment, assign, join}
+use Rattle.formula.proofs.Assignment.{assign-same, assign_other}
+use Rattle.formula.specs.Formula.{Formula, truth}
+use Rattle.formula.proofs.Formula.{coincide}
 use Rattle.net.specs.Net.{Fixed, Reads, Flips, Joins, Net, meaning, value, frees, Ordered, fit_at, at_fixed, at_reads, at_flips, at-joins, upward}
 use Rattle.absorb.specs.Absorb.{Turns}
 use Rattle.absorb.specs.Cone.{pattern}

@@ -2,9 +2,11 @@
 use Rattle.std.specs.Prelude.{ℕ, ◌+◌, ◌<◌, ◌≤◌, ◌≡◌, refl, Bool, true, false, ◌&&◌, List, length, get_or, set, eqb, ltb}
 use Rattle.std.proofs.Common.{arith, sym, ◌∙◌, subst, get_or-set_other, get_or-set_same, eqb-true, eq-eqb, ne_eqb, lt-ltb, ltb-true}
 use Rattle.std.specs.Int.Bits.{bit_and}
-use Rattle.words.specs.Logic.{by_bool, clash, tests, and_both}
+use Rattle.words.specs.Logic.{tests}
+use Rattle.words.proofs.Logic.{by_bool, clash, and_both}
 use Rattle.words.specs.Word.{bit}
-use Rattle.words.specs.Mask.{Apart, bits_apart}
+use Rattle.words.specs.Mask.{Apart}
+use Rattle.words.proofs.Mask.{bits_apart}
 use Rattle.net.specs.Net.{Node, Fixed, Reads, Flips, Joins, Binds, Net, node_of, node_fixed, node_reads, node_flips, node_joins, node_binds, frees, Fit, Ordered}
 use Rattle.absorb.specs.Absorb.{Names, Spares, Inside, Outside}
 use Rattle.absorb.specs.Marks.{unmarked, Clean, Marking}

@@ -6,12 +6,13 @@ use Rattle.std.proofs.Math.Bool.{true, false, not}
 use Rattle.std.proofs.lemmas.List.{length-replicate}
 use Rattle.std.proofs.Math.Dec.{ltb}
 use borrow.Author.Tests.{eqb-true, lt-ltb}
-use Rattle.words.specs.Logic.{by_bool, clash, tests}
+use Rattle.words.specs.Logic.{tests}
+use Rattle.words.proofs.Logic.{by_bool, clash}
 use Rattle.words.specs.Word.{bit}
 use Rattle.formula.specs.Formula.{Formula, neg, gate}
 use Rattle.formula.specs.Over.{over}
 use Rattle.form.specs.Form as Sizes
-use Rattle.form.specs.Form.{few-variables}
+use Rattle.form.proofs.FormLaws.{few-variables}
 use Rattle.form.specs.declared.Form.{Form}
 use Rattle.sheet.specs.Fields.{Sheet}
 use Rattle.net.specs.Net.{Node, Fixed, Reads, Flips, Joins, Binds, Net, node_reads, build, meaning, value, Fit, Ordered, meaning-is, replace, replace-here, replace-other, upward, Clear, Distinct}

@@ -7,7 +7,8 @@ use Rattle.std.proofs.Math.Bool.{false}
 use Rattle.std.proofs.Math.ListN.{length}
 use Rattle.std.proofs.Math.Dec.{ltb}
 use borrow.Author.Tests.{eqb-true, lt-ltb}
-use Rattle.words.specs.Logic.{by_bool, clash, tests}
+use Rattle.words.specs.Logic.{tests}
+use Rattle.words.proofs.Logic.{by_bool, clash}
 use Rattle.net.specs.Net.{Ordered}
 use Rattle.net.specs.Layout.{form_same, frames_of, first_word, second_word, unpack, packed, changed, Ground}
 use Rattle.absorb.specs.Absorb.{Names}

@@ -5,12 +5,15 @@ use Rattle.std.proofs.Math.Path.{refl, ap}
 use Rattle.std.proofs.Math.Bool.{true, false}
 use Rattle.std.specs.Int.Bits.{bit_and, bit_or, bit_xor}
 use borrow.Author.Tests.{eqb-true, eq-eqb, lt-ltb, ltb-true}
-use Rattle.words.specs.Logic.{by_bool, clash, tests, and_both}
-use Rattle.words.specs.Word.{bit, bit-and, bit-or, bit-none, bit-pow, bit-ones, bit_complement}
-use Rattle.words.specs.Mask.{without, bit-without}
+use Rattle.words.specs.Logic.{tests}
+use Rattle.words.proofs.Logic.{by_bool, clash, and_both}
+use Rattle.words.specs.Word.{bit}
+use Rattle.words.proofs.Word.{bit-and, bit-or, bit-none, bit-pow, bit-ones, bit_complement}
+use Rattle.words.specs.Mask.{without}
+use Rattle.words.proofs.Mask.{bit-without}
 use Rattle.formula.specs.Assignment.{join}
 use Rattle.formula.specs.Formula.{free}
-use Rattle.formula.specs.Over.{over-free}
+use Rattle.formula.proofs.Over.{over-free}
 use Rattle.net.specs.Net.{Node, Fixed, Reads, Flips, Joins, Binds, Net, build, meaning, value, frees, Fit, Ordered, meaning-is, upward}
 use Rattle.absorb.specs.Absorb.{Turns}
 use Rattle.absorb.specs.Cone.{pattern, Rule, at, Filled, free_word, free_rule, ones, gate_word, lane_rule, Gate, Cone}

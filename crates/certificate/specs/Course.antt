@@ -4,7 +4,8 @@ use Rattle.std.proofs.Common.{add-one, ◌∙◌}
 use Rattle.sheet.specs.Fields.{Sheet}
 use Rattle.session.specs.declared.Session.{Session}
 use Rattle.model.specs.Model.{Answer, after, line_at}
-use Rattle.session.specs.Sound.{standing_of, WordsKept, Empty, empty_standing, empty_words}
+use Rattle.session.specs.Sound.{standing_of, WordsKept, Empty}
+use Rattle.session.proofs.Sound.{empty_standing, empty_words}
 use Rattle.session.specs.Step.{Step}
 use Rattle.certificate.specs.Run.{before}
 
@@ -26,18 +27,3 @@ pub record Steps (sheet : Sheet) (script : List ℕ) (free i : ℕ) (x x' : Sess
 pub data Course (sheet : Sheet) (script : List ℕ) (free : ℕ) : ℕ → Session → Type 0 where
   begun : {x : Session} → Empty x → Course sheet script free zero x
   stepped : {i : ℕ} {x x' : Session} → Course sheet script free i x → Steps sheet script free i x x' → Course sheet script free (suc i) x'
-
-module _ {sheet : Sheet} {script : List ℕ} {free : ℕ} where
-  pub course_next : {i : ℕ} {x x' : Session} → Course sheet script free i x → Steps sheet script free i x x' → Course sheet script free (i + 1) x'
-  course_next {i} c t = rw (add-one i) (stepped c t)
-
-  -- the entries that stand are the reference model's
-  pub course_stands : {i : ℕ} {x : Session} → Course sheet script free i x → standing_of x ≡ before sheet script i
-  unfolding line_at after
-  course_stands (begun e) = empty_standing e
-  course_stands (stepped c t) = t.step.stands ∙ rw (course_stands c)
-
-  -- and their words are kept
-  pub course_words : {i : ℕ} {x : Session} → Course sheet script free i x → WordsKept x
-  course_words (begun e) = empty_words e
-  course_words (stepped c t) = t.step.sound.words

@@ -1,12 +1,7 @@
 pub mod Token
-pub mod TokenLaws
 pub mod FieldLaws
 pub mod Page
 pub mod Shape
-pub mod ShapeSteps
 pub mod ShapeLaws
 pub mod Row
 pub mod RowSteps
-pub mod RowLaws
-pub mod OneQuestion
-pub mod Example

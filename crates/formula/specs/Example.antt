@@ -7,30 +7,13 @@ use Rattle.formula.specs.Assignment.{assign, within, join}
 use Rattle.formula.specs.Formula.{Formula, input, neg, and, or, exists, free}
 use Rattle.formula.specs.Ask.{free_mask, ask}
 use Rattle.formula.specs.Why.{overlay, start_mask, start_word, why}
-use Rattle.formula.specs.Compute.{sweep_over, truth_over, first_over, ask_over, always_over, reduce_over, why_over, ask_over-ask, why_over-why}
+use Rattle.formula.specs.Compute.{sweep_over, truth_over, first_over, ask_over, always_over, reduce_over, why_over}
 
 -- what ASK and WHY answer for f with these entries
 pub record Answered (f : Formula) (mask values : ℕ) (holds : Bool) (word reason : ℕ) : Type 0 where
   pub asked : ask 32 f mask values ≡ record { holds = holds; word = word }
   pub because : why 32 f mask values ≡ record { holds = holds; word = reason }
 
-computed : (f : Formula) (mask values : ℕ) (holds : Bool) (word reason : ℕ)
-    → ask_over 32 f mask values ≡ record { holds = holds; word = word }
-    → why_over 32 f mask values ≡ record { holds = holds; word = reason } → Answered f mask values holds word reason
-computed f mask values holds word reason a b = record { asked = sym (ask_over-ask 32 f mask values) ∙ a; because = sym (why_over-why 32 f mask values) ∙ b }
-
 -- there is a value of variable 2 that is variable 0's, and variable 1 is true
 abbrev pub gauges : Formula
 gauges = and (exists 2 1 (or (and (input 0) (input 2)) (and (neg (input 0)) (neg (input 2))))) (input 1)
-
--- no entry, and variable 1 entered as 0; a quantifier over every variable; the last variable alone
-pub examples :
-    Answered gauges 0 0 true 2 2 × Answered gauges 2 0 false 0 2
-    × Answered (exists 0 32 (input 0)) 0 0 true 0 0 × Answered (input 31) 0 0 true 2147483648 2147483648
-unfolding ask_over why_over first_over truth_over sweep_over always_over reduce_over free_mask mask_of free within join assign overlay start_mask start_word without inside bit
-examples = (
-  computed gauges 0 0 true 2 2 refl refl,
-  computed gauges 2 0 false 0 2 refl refl,
-  computed (exists 0 32 (input 0)) 0 0 true 0 0 refl refl,
-  computed (input 31) 0 0 true 2147483648 2147483648 refl refl,
-)

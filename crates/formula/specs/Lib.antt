@@ -3,8 +3,6 @@ pub mod Formula
 pub mod Reason
 pub mod Least
 pub mod Ask
-pub mod FreeMask
-pub mod ReasonWord
 pub mod Over
 pub mod Why
 pub mod Gauges
@@ -12,4 +10,3 @@ pub mod GaugeLaws
 pub mod Compute
 pub mod GaugeCompute
 pub mod Example
-pub mod Widths

@@ -8,7 +8,7 @@ use Rattle.form.specs.declared.Form.TheVariants.{Narrow, Wide}
 use Rattle.sheet.specs.Fields.{Sheet}
 use Rattle.model.specs.Model.{lines, answers}
 use Rattle.certificate.specs.Run.{refusal, book, Run}
-use Rattle.certificate.specs.Bounds.{place-below}
+use Rattle.certificate.proofs.Bounds.{place-below}
 
 -- a refusal's number and place in one number, by the form
 abbrev pub result_of : Form → ℕ → ℕ → ℕ
@@ -23,24 +23,7 @@ pub record Host (sheet : Sheet) (script ans ans' : List ℕ) (r : ℕ) : Type 0 
   -- accepted: the reference model's bytes, then what was behind them
   pub written : (refusal sheet script (length ans)).number ≡ 0 → ans' ≡ answers sheet.form (book sheet) script ++ drop (answer_start sheet.form (lines script)) ans
 
-pub host_run : {sheet : Sheet} {script ans under over ans' under' over' : List ℕ} {number place cu co r : ℕ}
-    → Run sheet script ans under over ans' under' over' number place cu co → r ≡ result_of sheet.form number place → Host sheet script ans ans' r
-host_run {sheet} g e = record {
-  told = e ∙ ap₂ (result_of sheet.form) g.answered.number_is g.answered.place_is;
-  untouched = λ h. (g.answered.untouched (omega (arith, g.answered.number_is))).0;
-  written = λ h. g.answered.written (g.answered.number_is ∙ h);
-}
-
 -- what a result is divided by
 abbrev pub result_unit : Form → ℕ
 result_unit Narrow = 256
 result_unit Wide = 65536
-
-parts : (F : Form) (n k : ℕ) → k < Sizes.most_frames F → (result_of F n k / result_unit F ≡ n) × (result_of F n k % result_unit F ≡ k)
-parts Narrow n k h = (omega arith, omega arith)
-parts Wide n k h = (omega arith, omega arith)
-
--- The host's macros give number and place back: the number returned by the unit, and what is left over.
-pub host_decodes : {sheet : Sheet} {script ans ans' : List ℕ} {r : ℕ} → Host sheet script ans ans' r
-    → (r / result_unit sheet.form ≡ (refusal sheet script (length ans)).number) × (r % result_unit sheet.form ≡ (refusal sheet script (length ans)).place)
-host_decodes {sheet} {script} {ans} h = rw h.told (parts sheet.form _ _ (place-below sheet script (length ans)))

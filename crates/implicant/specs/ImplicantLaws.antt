@@ -2,7 +2,7 @@
 use Rattle.std.specs.Prelude.{ℕ, ◌+◌, ◌≤◌, ◌<◌, ◌≡◌, List, length, eqb}
 use Rattle.std.proofs.Common.{arith, eqb-true}
 use Rattle.std.proofs.lemmas.Bool.{eqb-false}
-use Rattle.words.specs.Logic.{by_bool}
+use Rattle.words.proofs.Logic.{by_bool}
 use Rattle.judge.specs.Cells.{HasCell, value_of, reason_of, Stored}
 use Rattle.judge.specs.CellLaws.{stored-long, stored-value, stored-reason, other-value, other-reason}
 use Rattle.judge.specs.Judge.{Right}

@@ -3,9 +3,11 @@ use Rattle.std.specs.Prelude.{ℕ, ◌^◌, ◌≡◌, true, false, List, get_or
 use Rattle.std.proofs.Common.{sym, ◌∙◌, ap, eqb-true}
 use Rattle.std.proofs.Math.Bool.{and-true}
 use Rattle.std.specs.Int.Bits.{bit_or}
-use Rattle.words.specs.Logic.{by_bool, clash, or_cases}
-use Rattle.words.specs.Word.{bit, bit-or, bit-none, bit-pow}
-use Rattle.words.specs.Mask.{Sub, Top, without, bit-without, without_sub, bits_sub, sub_trans, sub_refl, sub-or-left, sub-or-right, top_bit}
+use Rattle.words.proofs.Logic.{by_bool, clash, or_cases}
+use Rattle.words.specs.Word.{bit}
+use Rattle.words.proofs.Word.{bit-or, bit-none, bit-pow}
+use Rattle.words.specs.Mask.{Sub, Top, without}
+use Rattle.words.proofs.Mask.{bit-without, without_sub, bits_sub, sub_trans, sub_refl, sub-or-left, sub-or-right, top_bit}
 use Rattle.imply.specs.Gather.{Gathered}
 
 -- r has the reasons of those variables of `some` that are not left

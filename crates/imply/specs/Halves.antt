@@ -3,14 +3,17 @@ use Rattle.std.specs.Prelude.{ℕ, ◌+◌, ◌<◌, ◌^◌, ◌≡◌, refl, B
 use Rattle.std.proofs.Common.{arith, sym, ◌∙◌, ap, ⊎_elim, eqb-true, eq-eqb}
 use Rattle.std.proofs.Math.Bool.{and-true, and-false}
 use Rattle.std.specs.Int.Bits.{bit_or}
-use Rattle.words.specs.Logic.{by_bool, clash, or_right}
-use Rattle.words.specs.Word.{bit, bit-or, bit-pow, ext}
-use Rattle.words.specs.Mask.{Sub, Apart, Top, without, bit-without, bits_sub, bits_apart, apart-bits, apart-sub, apart-sym, sub_trans, without_sub, without-apart, or-sum, sub-le}
-use Rattle.words.specs.Mask.{top_bit, top_rest, sub-split, add-one-sub, one-sub, none-sub, or_apart, put, placed, placed-put, placed_at, placed-other, without-none}
+use Rattle.words.proofs.Logic.{by_bool, clash, or_right}
+use Rattle.words.specs.Word.{bit}
+use Rattle.words.proofs.Word.{bit-or, bit-pow, ext}
+use Rattle.words.specs.Mask.{Sub, Apart, Top, without}
+use Rattle.words.proofs.Mask.{bit-without, bits_sub, bits_apart, apart-bits, apart-sub, apart-sym, sub_trans, without_sub, without-apart, or-sum, sub-le}
+use Rattle.words.specs.Mask.{put, placed}
+use Rattle.words.proofs.Mask.{top_bit, top_rest, sub-split, add-one-sub, one-sub, none-sub, or_apart, placed-put, placed_at, placed-other, without-none}
 use Rattle.cube.specs.Cube.{Fixed}
 use Rattle.formula.specs.Formula.{Formula, truth}
 use Rattle.formula.specs.Reason.{Explains}
-use Rattle.formula.specs.ReasonWord.{word_branch, word_skip}
+use Rattle.formula.proofs.ReasonWord.{word_branch, word_skip}
 use Rattle.imply.specs.Posed.{Found, Met, Lost, Free}
 
 -- ---- a value that is known

@@ -4,12 +4,16 @@ use Rattle.std.proofs.Common.{arith, ◌∙◌, subst, length-set, get_or-set_sa
 use Rattle.std.proofs.Math.Path.{sym, ap}
 use Rattle.std.proofs.Math.Bool.{not}
 use Rattle.std.specs.Int.Bits.{bit_or}
-use Rattle.words.specs.Logic.{by_bool, clash, tests, or_left, or_right, or_cases, not-not}
-use Rattle.words.specs.Word.{bit, bit-or, bit-none, bit-pow}
-use Rattle.words.specs.Mask.{Apart, bits_sub, bits_apart, or-sub, none-sub, one-sub, sub-bits}
-use Rattle.formula.specs.Assignment.{Assignment, On, join, join-left, join-right, join_cases, by_value, differ}
+use Rattle.words.specs.Logic.{tests}
+use Rattle.words.proofs.Logic.{by_bool, clash, or_left, or_right, or_cases, not-not}
+use Rattle.words.specs.Word.{bit}
+use Rattle.words.proofs.Word.{bit-or, bit-none, bit-pow}
+use Rattle.words.specs.Mask.{Apart}
+use Rattle.words.proofs.Mask.{bits_sub, bits_apart, or-sub, none-sub, one-sub, sub-bits}
+use Rattle.formula.specs.Assignment.{Assignment, On, join}
+use Rattle.formula.proofs.Assignment.{join-left, join-right, join_cases, by_value, differ}
 use Rattle.formula.specs.Formula.{Formula, truth, free}
-use Rattle.formula.specs.Over.{over-free, over_misses}
+use Rattle.formula.proofs.Over.{over-free, over_misses}
 use Rattle.net.specs.Layout.{formula_at, HasNode, Ground, Is, val, val-not, val_flip, decides, decides-some, decides-low, f-reads, f_flips, f-joins, f-binds}
 use Rattle.judge.specs.Cells.{HasCell, value_of, reason_of, Stored}
 use Rattle.judge.specs.Judge.{Right, Judged}

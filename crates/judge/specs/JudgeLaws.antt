@@ -5,12 +5,15 @@ use Rattle.std.proofs.Math.Bool.{and-true}
 use Rattle.std.proofs.lemmas.List.{length-replicate}
 use Rattle.std.specs.Int.Bits.{bit_or}
 use Rattle.std.proofs.lemmas.Bool.{eqb-false}
-use Rattle.words.specs.Logic.{by_bool, clash, tests}
+use Rattle.words.specs.Logic.{tests}
+use Rattle.words.proofs.Logic.{by_bool, clash}
 use Rattle.words.specs.Word.{bit}
-use Rattle.words.specs.Mask.{Sub, Apart, without, bit-without, or-sub, none-sub, one-sub, sub-bits, bits_sub, bits_apart, sub_trans, sub_refl, without_sub, sub-without}
-use Rattle.cube.specs.Cube.{Fixed, replaced_other}
-use Rattle.formula.specs.Reason.{explains_neg, gate-left, gate-right, explains_set}
-use Rattle.formula.specs.ReasonWord.{word-never, word-input, word-both}
+use Rattle.words.specs.Mask.{Sub, Apart, without}
+use Rattle.words.proofs.Mask.{bit-without, or-sub, none-sub, one-sub, sub-bits, bits_sub, bits_apart, sub_trans, sub_refl, without_sub, sub-without}
+use Rattle.cube.specs.Cube.{Fixed}
+use Rattle.cube.proofs.CubeLaws.{replaced_other}
+use Rattle.formula.proofs.Reason.{explains_neg, gate-left, gate-right, explains_set}
+use Rattle.formula.proofs.ReasonWord.{word-never, word-input, word-both}
 use Rattle.net.specs.Stands.{mask_decided, mask-undecided}
 use Rattle.net.specs.Layout.{formula_at, Ground, Is, val, val-not, val_flip, decides, decides-some, decides-low, f_fixed, f-true, f-reads, f_flips, f-joins, f-binds}
 use Rattle.judge.specs.Cells.{HasCell, value_of, reason_of, Vacant, Stored, end}

@@ -1,10 +1,6 @@
 pub mod Pattern
-pub mod PatternLaws
 pub mod Lanes
 pub mod LanesLaws
 pub mod Marks
-pub mod MarksLaws
 pub mod Fill
-pub mod FillLaws
 pub mod Settle
-pub mod SettleLaws

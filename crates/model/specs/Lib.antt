@@ -1,9 +1,6 @@
 pub mod Model
 pub mod Entries
-pub mod Refused
 pub mod Line
-pub mod Kinds
-pub mod Invariant
 pub mod Script
 pub mod Desks
 pub mod Agree

@@ -2,8 +2,9 @@
 use Rattle.std.specs.Prelude.{ℕ, ◌≤◌, ◌≡◌, Bool, eqb}
 use Rattle.std.proofs.Common.{arith, sym, ◌∙◌, eqb-true}
 use Rattle.std.specs.Int.Bits.{bit_or}
-use Rattle.words.specs.Logic.{by_bool}
-use Rattle.words.specs.Mask.{Sub, Apart, apart-sub, apart-sym, or_apart}
+use Rattle.words.proofs.Logic.{by_bool}
+use Rattle.words.specs.Mask.{Sub, Apart}
+use Rattle.words.proofs.Mask.{apart-sub, apart-sym, or_apart}
 use Rattle.net.specs.Net.{Node, Binds, Net, replace, replace-here, replace-other, Ranged, Clear, Distinct}
 
 -- ---- fewer nodes, fewer variables, both masks

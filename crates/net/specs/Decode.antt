@@ -6,12 +6,14 @@ use Rattle.std.proofs.Math.Bool.{true, false, not, ◌||◌}
 use Rattle.words.specs.Mask.{range_mask}
 use Rattle.formula.specs.Assignment.{Assignment, join, sweep}
 use Rattle.formula.specs.Formula.{Formula, truth, free}
-use Rattle.formula.specs.ReasonWord.{within-range}
+use Rattle.formula.proofs.ReasonWord.{within-range}
 use Rattle.sheet.specs.declared.Kind.{Kind}
 use Rattle.sheet.specs.declared.Kind.TheVariants.{Never, Input, Not, And, Or, Exists, Forall, Gauge}
-use Rattle.sheet.specs.Frames.{formula_of, formula-is}
+use Rattle.sheet.specs.Frames.{formula_of}
+use Rattle.sheet.proofs.Frames.{formula-is}
 use Rattle.sheet.specs.Frames as Sheets
-use Rattle.formula.specs.Over.{over, over-free, over-range}
+use Rattle.formula.specs.Over.{over}
+use Rattle.formula.proofs.Over.{over-free, over-range}
 use Rattle.net.specs.Net.{Node, Fixed, Reads, Flips, Joins, Binds, Net, build, meaning, value, frees, Fit, Ordered, meaning-is, upward}
 
 unfoldable pub node_of_kind : Kind → Node

@@ -4,10 +4,12 @@ use Rattle.std.specs.Prelude.{ℕ, ◌+◌, ◌-◌, ◌*◌, ◌/◌, ◌%◌, 
 use Rattle.std.proofs.Common.{arith, ◌∙◌, subst, eq-eqb, ne_eqb}
 use Rattle.std.proofs.Math.Path.{ap}
 use Rattle.std.proofs.Math.Dec.{eqb}
-use Rattle.words.specs.Logic.{by_bool, tests}
+use Rattle.words.specs.Logic.{tests}
+use Rattle.words.proofs.Logic.{by_bool}
 use Rattle.formula.specs.Formula.{Formula, never, input, neg, gate}
 use Rattle.formula.specs.Ask.{Bounded}
-use Rattle.form.specs.Form.{form_of, few-variables}
+use Rattle.form.specs.Form.{form_of}
+use Rattle.form.proofs.FormLaws.{few-variables}
 use Rattle.form.specs.Form as Sizes
 use Rattle.form.specs.declared.Form.{Form}
 use Rattle.form.specs.declared.Form.TheVariants.{Narrow, Wide}

@@ -2,7 +2,8 @@
 use Rattle.std.specs.Prelude.{ℕ, ◌/◌, ◌%◌, ◌<◌, ◌≤◌, ◌≡◌, refl, List, length, get_or, set, eqb, ltb}
 use Rattle.std.proofs.Common.{arith, sym, ◌∙◌, ap, ap₂, length-set, get_or-set_same, get_or-set_other, eqb-true}
 use Rattle.std.proofs.Math.Path.{fun_ext}
-use Rattle.words.specs.Logic.{by_bool, tests}
+use Rattle.words.specs.Logic.{tests}
+use Rattle.words.proofs.Logic.{by_bool}
 use Rattle.sheet.specs.Fields.{Sheet}
 use Rattle.net.specs.Net.{Net, meaning}
 use Rattle.net.specs.Layout.{form_same, frames_of, first_word, second_word, unpack, packed, changed, formula_at, Ground}

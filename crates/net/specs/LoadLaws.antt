@@ -4,20 +4,24 @@ use Rattle.std.proofs.Common.{arith, sym, ◌∙◌, length-set, get_or-set_same
 use Rattle.std.proofs.Math.Path.{ap, ap₂, fun_ext}
 use Rattle.std.proofs.lemmas.List.{length-replicate, get_or-replicate}
 use Rattle.std.proofs.Math.ListN.{get_or-eq_default}
-use Rattle.words.specs.Logic.{by_bool, clash, tests}
+use Rattle.words.specs.Logic.{tests}
+use Rattle.words.proofs.Logic.{by_bool, clash}
 use Rattle.words.specs.Word.{bit}
-use Rattle.words.specs.Mask.{range_mask, apart-bits}
-use Rattle.formula.specs.Ask.{bit-free}
-use Rattle.formula.specs.ReasonWord.{within-range}
+use Rattle.words.specs.Mask.{range_mask}
+use Rattle.words.proofs.Mask.{apart-bits}
+use Rattle.formula.proofs.Ask.{bit-free}
+use Rattle.formula.proofs.ReasonWord.{within-range}
 use Rattle.sheet.specs.declared.Kind.{Kind}
 use Rattle.sheet.specs.declared.Kind.TheVariants.{Never, Input, Not, And, Or, Exists, Forall, Gauge}
-use Rattle.form.specs.Form.{most-place, few-variables}
+use Rattle.form.proofs.FormLaws.{most-place, few-variables}
 use Rattle.form.specs.declared.Form.{Form}
 use Rattle.sheet.specs.Fields.{Sheet, frames, variables, kind}
-use Rattle.sheet.specs.Frames.{formula, kind-past}
+use Rattle.sheet.specs.Frames.{formula}
+use Rattle.sheet.proofs.Frames.{kind-past}
 use Rattle.sheet.specs.Frames as Sheets
+use Rattle.sheet.proofs.Frames as SheetsLaws
 use Rattle.sheet.specs.Rules.{binds, gauges}
-use Rattle.sheet.specs.Accepted.{ordered-bounded}
+use Rattle.sheet.proofs.Accepted.{ordered-bounded}
 use Rattle.net.specs.Net.{Fixed, Binds, Net, meaning, fit_at, replace-here, replace-other, Ranged, Clear, Distinct}
 use Rattle.net.specs.Decode.{node_of_kind, decoded, decoded-ordered, decoded-value, decoded-free}
 use Rattle.net.specs.Layout.{net_words, form_words, first_word, second_word, unpack, packed}
@@ -28,7 +32,7 @@ use Rattle.net.specs.Load.{bound_of, empty_net, Empty, Loading}
 
 -- a frame names frames and variables whose numbers fit a node's bits
 pub loading_fit : {s : Sheet} {net : List ℕ} {k : ℕ} {d : Kind} → Loading s net k → d ≡ kind s k → Sheets.Fit 64 4096 d
-loading_fit {s} {net} {k} {d} L e = rw e (Sheets.fit-more (variables s) 64 k 4096 (kind s k) (few-variables s.form) (omega (arith, L.within, L.few, most-place s.form)) (L.ordered.fit k))
+loading_fit {s} {net} {k} {d} L e = rw e (SheetsLaws.fit-more (variables s) 64 k 4096 (kind s k) (few-variables s.form) (omega (arith, L.within, L.few, most-place s.form)) (L.ordered.fit k))
 
 -- nothing is stored yet
 pub loading_none : {s : Sheet} {net : List ℕ} {free : ℕ} → Checked s free → Empty s.form net → Loading s net 0

@@ -3,10 +3,10 @@ use Rattle.std.specs.Prelude.{ℕ, ◌<◌, ◌≡◌, Bool, true, false, not, �
 use Rattle.std.proofs.Common.{arith, ap, ap₂, eqb-true}
 use Rattle.std.proofs.Math.Path.{sym}
 use Rattle.std.specs.Int.Bits.{bit_or}
-use Rattle.words.specs.Logic.{by_bool}
+use Rattle.words.proofs.Logic.{by_bool}
 use Rattle.formula.specs.Assignment.{join}
 use Rattle.formula.specs.Formula.{Formula, truth, free}
-use Rattle.formula.specs.Over.{over-over, over-over-free}
+use Rattle.formula.proofs.Over.{over-over, over-over-free}
 use Rattle.net.specs.Net.{Node, Fixed, Reads, Flips, Joins, Binds, Net, build, meaning, Fit, Ordered, meaning-is, fit_at, at_node, at-binds, replace, replace-here, replace-other, ordered-replace, upward}
 use Rattle.net.specs.Stands.{Stands, over-stands, stands-refl, stands_trans}
 

@@ -2,8 +2,8 @@
 use Rattle.std.specs.Prelude.{ℕ, ◌<◌, ◌≤◌, ◌≡◌, Bool, false, List, eqb}
 use Rattle.std.proofs.Common.{arith, sym, ◌∙◌, ap, eqb-true}
 use Rattle.std.specs.Int.Bits.{bit_or}
-use Rattle.words.specs.Logic.{by_bool}
-use Rattle.words.specs.Mask.{or_apart}
+use Rattle.words.proofs.Logic.{by_bool}
+use Rattle.words.proofs.Mask.{or_apart}
 use Rattle.form.specs.Form as Sizes
 use Rattle.sheet.specs.Fields.{Sheet}
 use Rattle.net.specs.Net.{Node, Binds, Net, node_of, node_binds, replace, fit_at, Ordered, Clear, Distinct}

@@ -4,13 +4,14 @@ use Rattle.std.proofs.Common.{arith, sym, ◌∙◌, ap₂, subst}
 use Rattle.std.proofs.Math.Path.{refl, ap}
 use Rattle.std.proofs.Math.Bool.{true, false}
 use borrow.Author.Tests.{eqb-true, eq-eqb, ne_eqb, lt-ltb, le-ltb}
-use Rattle.words.specs.Logic.{by_bool}
+use Rattle.words.proofs.Logic.{by_bool}
 use Rattle.words.specs.Mask.{Apart}
 use Rattle.formula.specs.Assignment.{Assignment}
 use Rattle.formula.specs.Formula.{Formula, never, input, neg, gate, truth, free}
 use Rattle.formula.specs.Ask.{Bounded}
-use Rattle.formula.specs.FreeMask.{bounded-never, bounded-input, bounded-neg, bounded-gate}
-use Rattle.formula.specs.Over.{over, bounded-over}
+use Rattle.formula.proofs.FreeMask.{bounded-never, bounded-input, bounded-neg, bounded-gate}
+use Rattle.formula.specs.Over.{over}
+use Rattle.formula.proofs.Over.{bounded-over}
 
 -- A gate and a quantifier carry the truth that decides them, as in formulas: `Joins false` is AND, `Binds true` is EXISTS.
 pub data Node : Type 0 where

@@ -2,8 +2,10 @@
 use Rattle.std.specs.Prelude.{ℕ, ◌+◌, ◌-◌, ◌<◌, ◌≤◌, ◌≡◌, refl, Bool, false, ◌⊎◌, List, get_or, eqb, ltb}
 use Rattle.std.proofs.Common.{arith, sym, ◌∙◌, ap, ap₂, inl, inr, ext_get_or, ne_eqb, eq-eqb}
 use Rattle.std.specs.Int.Bits.{bit_or}
-use Rattle.words.specs.Logic.{by_bool, tests}
-use Rattle.words.specs.Mask.{Sub, Apart, apart-sub, apart-sym, sub-or-left, sub-or-right}
+use Rattle.words.specs.Logic.{tests}
+use Rattle.words.proofs.Logic.{by_bool}
+use Rattle.words.specs.Mask.{Sub, Apart}
+use Rattle.words.proofs.Mask.{apart-sub, apart-sym, sub-or-left, sub-or-right}
 use Rattle.formula.specs.Over.{over}
 use Rattle.form.specs.Form as Sizes
 use Rattle.sheet.specs.Fields.{Sheet}

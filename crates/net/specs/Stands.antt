@@ -2,13 +2,15 @@
 -- same truth, and no free variable more. Reasons of g are those of f. Assumes nothing.
 use Rattle.std.specs.Prelude.{ℕ, ◌≡◌, refl, Bool, true, not, ◌&&◌}
 use Rattle.std.proofs.Common.{sym, ◌∙◌, ap}
-use Rattle.words.specs.Logic.{by_bool, and_both}
+use Rattle.words.proofs.Logic.{by_bool, and_both}
 use Rattle.words.specs.Word.{bit}
-use Rattle.words.specs.Mask.{Apart, without, bits_apart, bit-without}
+use Rattle.words.specs.Mask.{Apart, without}
+use Rattle.words.proofs.Mask.{bits_apart, bit-without}
 use Rattle.formula.specs.Assignment.{Assignment}
 use Rattle.formula.specs.Formula.{Formula, truth, free}
 use Rattle.formula.specs.Reason.{Explains}
-use Rattle.formula.specs.Over.{over, over-free, over-same, over_meets, over_misses, over-all, blend, blend_on, blend-off}
+use Rattle.formula.specs.Over.{over, blend}
+use Rattle.formula.proofs.Over.{over-free, over-same, over_meets, over_misses, over-all, blend_on, blend-off}
 
 pub record Stands (f g : Formula) : Type 0 where
   pub same : (σ : Assignment) → truth g σ ≡ truth f σ

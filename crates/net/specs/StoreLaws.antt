@@ -3,7 +3,8 @@ use Rattle.std.specs.Prelude.{ℕ, ◌+◌, ◌*◌, ◌/◌, ◌%◌, ◌<◌, 
 use Rattle.std.proofs.Common.{arith, ◌∙◌, length-set, get_or-set_same, get_or-set_other, eqb-true}
 use Rattle.std.proofs.Math.Path.{sym, ap, ap₂, fun_ext}
 use Rattle.std.proofs.Math.Dec.{ltb}
-use Rattle.words.specs.Logic.{by_bool, tests}
+use Rattle.words.specs.Logic.{tests}
+use Rattle.words.proofs.Logic.{by_bool}
 use Rattle.net.specs.Net.{Fixed, node_of, replace, replace-here, replace-other}
 use Rattle.net.specs.Layout.{frames_of, free_of, gauges_of, first_word, second_word, HasNode, unpack, packed, changed, Is}
 

@@ -1,13 +1,9 @@
 pub mod Normal
 pub mod Words
 pub mod WordBytes
-pub mod BytesLaws
 pub mod PlaceLaws
 pub mod FormulaLaws
 pub mod Few
-pub mod NormalLaws
 pub mod Certificate
 pub mod Visit
-pub mod CodeLaws
 pub mod VisitLaws
-pub mod WriteLaws

@@ -2,7 +2,8 @@
 -- these, the sheet's, so that a search need not know them. Assumes nothing.
 use Rattle.std.specs.Prelude.{ℕ, List}
 use Rattle.formula.specs.Formula.{Formula}
-use Rattle.records.specs.Table.{Grown, grown_refl, grown_trans}
+use Rattle.records.specs.Table.{Grown}
+use Rattle.records.proofs.Table.{grown_refl, grown_trans}
 use Rattle.records.specs.Both.{Tables}
 use Rattle.net.specs.Layout.{net_form, frames_of}
 use Rattle.net.specs.Sheet.{Faithful}
@@ -11,14 +12,3 @@ pub record Growing (net u : List ℕ) (cu : ℕ) (o : List ℕ) (co : ℕ) (u' :
   pub under : Grown (net_form net) u cu u' cu'
   pub over : Grown (net_form net) o co o' co'
   pub true-still : (φ : ℕ → Formula) → Faithful φ net → Tables (net_form net) φ (frames_of net) u cu o co → Tables (net_form net) φ (frames_of net) u' cu' o' co'
-
-pub growing_same : {net u : List ℕ} {cu : ℕ} {o : List ℕ} {co : ℕ} → Growing net u cu o co u cu o co
-growing_same {net} {u} {cu} {o} {co} = record { under = grown_refl (net_form net) u cu; over = grown_refl (net_form net) o co; true-still = λ φ f t. t }
-
-pub growing_then : {net u u' u'' : List ℕ} {cu cu' cu'' : ℕ} {o o' o'' : List ℕ} {co co' co'' : ℕ}
-    → Growing net u cu o co u' cu' o' co' → Growing net u' cu' o' co' u'' cu'' o'' co'' → Growing net u cu o co u'' cu'' o'' co''
-growing_then g h = record {
-  under = grown_trans g.under h.under;
-  over = grown_trans g.over h.over;
-  true-still = λ φ f t. h.true-still φ f (g.true-still φ f t);
-}

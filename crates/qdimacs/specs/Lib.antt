@@ -1,6 +1,4 @@
 pub mod Reading
-pub mod CheckLaws
 pub mod MatrixAsked
-pub mod BuildLaws
 pub mod ReadLaws
 pub mod Certificate

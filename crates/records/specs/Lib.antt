@@ -4,4 +4,3 @@ pub mod Put
 pub mod Both
 pub mod Search
 pub mod Find
-pub mod Locate

@@ -1,3 +1,2 @@
 pub mod Printed
-pub mod PrintedLaws
 pub mod Lines

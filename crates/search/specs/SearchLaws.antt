@@ -3,17 +3,20 @@ use Rattle.std.specs.Prelude.{ℕ, ◌+◌, ◌-◌, ◌*◌, ◌≤◌, ◌<◌
 use Rattle.std.proofs.Common.{arith, ◌∙◌}
 use Rattle.std.proofs.Math.Path.{ap}
 use Rattle.std.specs.Int.Bits.{bit_or}
-use Rattle.words.specs.Logic.{by_bool, tests, or_left, or_right}
-use Rattle.words.specs.Word.{bit, bit-or, bit-none, ext}
-use Rattle.words.specs.Mask.{Apart, without, bits_apart, apart-sub, apart-sym, without_sub, without-apart}
+use Rattle.words.specs.Logic.{tests}
+use Rattle.words.proofs.Logic.{by_bool, or_left, or_right}
+use Rattle.words.specs.Word.{bit}
+use Rattle.words.proofs.Word.{bit-or, bit-none, ext}
+use Rattle.words.specs.Mask.{Apart, without}
+use Rattle.words.proofs.Mask.{bits_apart, apart-sub, apart-sym, without_sub, without-apart}
 use Rattle.cube.specs.Cube.{Fixed}
 use Rattle.formula.specs.Formula.{Formula, free}
-use Rattle.formula.specs.Reason.{explains_neg, gate-left, gate-right, explains_set}
-use Rattle.formula.specs.ReasonWord.{word-never, word-input, word-both}
+use Rattle.formula.proofs.Reason.{explains_neg, gate-left, gate-right, explains_set}
+use Rattle.formula.proofs.ReasonWord.{word-never, word-input, word-both}
 use Rattle.form.specs.Form.{record_start}
 use Rattle.form.specs.declared.Form.{Form}
 use Rattle.records.specs.Both.{Tables}
-use Rattle.formula.specs.Over.{over-free}
+use Rattle.formula.proofs.Over.{over-free}
 use Rattle.net.specs.Net.{Clear}
 use Rattle.net.specs.Clear.{clear_less, clear-sub, clear_or}
 use Rattle.net.specs.Stands.{mask_decided, mask-undecided}

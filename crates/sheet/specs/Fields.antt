@@ -65,15 +65,3 @@ kind_of f =
 -- the kind of frame k; past the end, Never
 abbrev pub kind : Sheet → ℕ → Kind
 kind s k = kind_of (fields_at s k)
-
-pub fields-at : (s : Sheet) (k : ℕ) → k < frames s → fields_at s k ≡ laid s.form s.bytes k
-unfolding fields_at
-fields-at s k h = rw (lt-ltb k (frames s) h)
-
-pub fields-past : (s : Sheet) (k : ℕ) → frames s ≤ k → fields_at s k ≡ no_fields
-unfolding fields_at
-fields-past s k h = rw (le-ltb k (frames s) h)
-
--- the count of frames, as code has it that works out the form first
-pub frames-of : {F G : Form} {n : ℕ} (m : ℕ) → F ≡ G → n ≡ Sizes.frames F m → n ≡ Sizes.frames G m
-frames-of m f e = e ∙ ap (λ (F : Form). Sizes.frames F m) f

@@ -7,7 +7,6 @@ pub mod Rules
 pub mod Keeps
 pub mod RuleLaws
 pub mod Accepted
-pub mod Gauges
 pub mod Check
 pub mod Pass
 pub mod Cases

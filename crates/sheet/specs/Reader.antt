@@ -11,23 +11,11 @@ use Rattle.sheet.specs.declared.reader.Reader.{Reader}
 unfoldable pub following : Sheet → ℕ → ℕ
 following s k = cond (ltb k (frames s)) (k + 1) k
 
-pub following_in : (s : Sheet) (k : ℕ) → k < frames s → following s k ≡ k + 1
-unfolding following
-following_in s k h = rw (lt-ltb k (frames s) h)
-
-pub following-past : (s : Sheet) (k : ℕ) → frames s ≤ k → following s k ≡ k
-unfolding following
-following-past s k h = rw (le-ltb k (frames s) h)
-
 -- the frame of number k, and the number after it
 pub record Takes (s : Sheet) (k : ℕ) (frame : Frame) (next : ℕ) : Type 0 where
   pub number_is : frame.number ≡ k
   pub kind-is : frame.kind ≡ kind s k
   pub next-is : next ≡ following s k
-
--- the same, as code has it that works out the form first
-pub takes_of : {F G : Form} (b : List ℕ) (k : ℕ) (frame : Frame) (next : ℕ) → F ≡ G → Takes (sheet_of F b) k frame next → Takes (sheet_of G b) k frame next
-takes_of b k frame next e t = subst (λ (F : Form). Takes (sheet_of F b) k frame next) e t
 
 -- the sheet that a reader reads
 abbrev pub read_by : Reader → Sheet

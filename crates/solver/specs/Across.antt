@@ -4,7 +4,7 @@ use Rattle.std.specs.Prelude.{ℕ, ◌+◌, ◌-◌, ◌≡◌, Bool, List}
 use Rattle.std.proofs.Common.{sym, ◌∙◌, ap}
 use Rattle.words.specs.Word.{bit}
 use Rattle.formula.specs.Formula.{Formula, free}
-use Rattle.formula.specs.Ask.{bit-free}
+use Rattle.formula.proofs.Ask.{bit-free}
 use Rattle.sheet.specs.Fields.{Sheet, frames}
 use Rattle.sheet.specs.Frames.{formula}
 use Rattle.records.specs.Both.{Tables, TablesGrown}

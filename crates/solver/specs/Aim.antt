@@ -2,14 +2,18 @@
 use Rattle.std.specs.Prelude.{ℕ, ◌<◌, ◌≡◌, refl, Bool, true, false, not, ◌&&◌, ◌||◌, List}
 use Rattle.std.proofs.Common.{arith, sym, ◌∙◌, ap}
 use Rattle.std.specs.Int.Bits.{bit_or, bit_and, or_zero_r, and_zero_r}
-use Rattle.words.specs.Logic.{clash, or-false}
-use Rattle.words.specs.Word.{bit, bit-or, bit-none}
-use Rattle.words.specs.Mask.{Sub, Apart, without, bit-without, sub-bits, sub_refl, bits_apart, sub_trans, none-sub, without_sub, without-apart, or_apart, apart-sub, apart-sym, apart-bits, without-sum}
-use Rattle.cube.specs.Cube.{Made, made_sub}
+use Rattle.words.proofs.Logic.{clash, or-false}
+use Rattle.words.specs.Word.{bit}
+use Rattle.words.proofs.Word.{bit-or, bit-none}
+use Rattle.words.specs.Mask.{Sub, Apart, without}
+use Rattle.words.proofs.Mask.{bit-without, sub-bits, sub_refl, bits_apart, sub_trans, none-sub, without_sub, without-apart, or_apart, apart-sub, apart-sym, apart-bits, without-sum}
+use Rattle.cube.specs.Cube.{Made}
+use Rattle.cube.proofs.CubeLaws.{made_sub}
 use Rattle.formula.specs.Assignment.{Assignment}
 use Rattle.formula.specs.Formula.{Formula, free}
 use Rattle.formula.specs.Reason.{Explains}
-use Rattle.formula.specs.Over.{over, over-free, over_none, bounded-over}
+use Rattle.formula.specs.Over.{over}
+use Rattle.formula.proofs.Over.{over-free, over_none, bounded-over}
 use Rattle.formula.specs.Ask.{Bounded}
 use Rattle.sheet.specs.Fields.{Sheet, variables}
 use Rattle.net.specs.Stands.{Serves, over_serves}

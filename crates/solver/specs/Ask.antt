@@ -5,24 +5,33 @@ use Rattle.std.proofs.Common.{mod-eq_of_lt, arith, sym, ◌∙◌, ap}
 use Rattle.std.proofs.Math.Path.{refl}
 use Rattle.std.proofs.Math.Bool.{true, false}
 use Rattle.std.specs.Int.Bits.{bit_and}
-use Rattle.words.specs.Logic.{clash}
+use Rattle.words.proofs.Logic.{clash}
 use Rattle.words.specs.Word.{bit}
-use Rattle.words.specs.Mask.{Sub, Apart, without, bit-without, sub-bits, bits_apart, bits_sub, and-sub, bits_masked, sub-lt, sub_refl, sub_trans, or-sum, or-sub, without_sub, without-apart, apart-sub, apart-sym}
-use Rattle.cube.specs.Cube.{Made, made_same}
+use Rattle.words.specs.Mask.{Sub, Apart, without}
+use Rattle.words.proofs.Mask.{bit-without, sub-bits, bits_apart, bits_sub, and-sub, bits_masked, sub-lt, sub_refl, sub_trans, or-sum, or-sub, without_sub, without-apart, apart-sub, apart-sym}
+use Rattle.cube.specs.Cube.{Made}
+use Rattle.cube.proofs.CubeLaws.{made_same}
 use Rattle.formula.specs.Assignment.{Assignment}
 use Rattle.formula.specs.Formula.{Formula, truth}
-use Rattle.formula.specs.Reason.{Explains, explains_truth}
-use Rattle.formula.specs.ReasonWord.{word-values}
-use Rattle.formula.specs.Over.{over, over_none}
-use Rattle.formula.specs.Ask.{Verdict, Bounded, free_mask, free_mask-lt, ask, yes, ask_chosen, ask_explained}
+use Rattle.formula.specs.Reason.{Explains}
+use Rattle.formula.proofs.Reason.{explains_truth}
+use Rattle.formula.proofs.ReasonWord.{word-values}
+use Rattle.formula.specs.Over.{over}
+use Rattle.formula.proofs.Over.{over_none}
+use Rattle.formula.specs.Ask.{Verdict, Bounded, free_mask, ask, yes}
+use Rattle.formula.proofs.Ask.{free_mask-lt, ask_chosen, ask_explained}
 use Rattle.formula.specs.Ask as Question
-use Rattle.form.specs.Form.{word_end, end_power}
+use Rattle.form.specs.Form.{word_end}
+use Rattle.form.proofs.FormLaws.{end_power}
 use Rattle.form.specs.declared.Form.{Form}
 use Rattle.sheet.specs.Fields.{Sheet, frames, variables}
 use Rattle.sheet.specs.Frames.{formula}
-use Rattle.records.specs.Table.{Valid, Grown, Kept, matches, grown_refl, grown_trans}
-use Rattle.records.specs.Put.{Put, valid_put, kept_put}
-use Rattle.records.specs.Search.{FirstBelow, first-kept}
+use Rattle.records.specs.Table.{Valid, Grown, Kept, matches}
+use Rattle.records.proofs.Table.{grown_refl, grown_trans}
+use Rattle.records.specs.Put.{Put}
+use Rattle.records.proofs.PutLaws.{valid_put, kept_put}
+use Rattle.records.specs.Search.{FirstBelow}
+use Rattle.records.proofs.SearchLaws.{first-kept}
 use Rattle.net.specs.Layout.{net_form, frames_of, free_of, formula_at, val}
 use Rattle.net.specs.Sheet.{net-form}
 use Rattle.proxies.specs.Growing.{Growing}

@@ -5,24 +5,30 @@ use Rattle.std.proofs.Common.{arith, add-zero, ◌∙◌}
 use Rattle.std.proofs.Math.Path.{refl, sym, ap}
 use Rattle.std.proofs.Math.Bool.{true, false, not}
 use Rattle.std.specs.Int.Bits.{bit_and, bit_or, or_zero_r}
-use Rattle.words.specs.Logic.{by_bool, clash, or-false}
-use Rattle.words.specs.Word.{bit, bit-and, bit-or, bit-none}
-use Rattle.words.specs.Mask.{Sub, without, bit-without, sub-bits, bits_apart, apart-bits, none-sub, sub_trans, sub-or-left, or-sub, or-sum, or_apart, apart-sub, apart-sym, agree-split, agree-sum}
-use Rattle.cube.specs.Cube.{Made, made_sub}
+use Rattle.words.proofs.Logic.{by_bool, clash, or-false}
+use Rattle.words.specs.Word.{bit}
+use Rattle.words.proofs.Word.{bit-and, bit-or, bit-none}
+use Rattle.words.specs.Mask.{Sub, without}
+use Rattle.words.proofs.Mask.{bit-without, sub-bits, bits_apart, apart-bits, none-sub, sub_trans, sub-or-left, or-sub, or-sum, or_apart, apart-sub, apart-sym, agree-split, agree-sum}
+use Rattle.cube.specs.Cube.{Made}
+use Rattle.cube.proofs.CubeLaws.{made_sub}
 use Rattle.formula.specs.Formula.{Formula, truth}
-use Rattle.formula.specs.Reason.{Explains, explains_truth}
-use Rattle.formula.specs.Over.{over, over_none}
+use Rattle.formula.specs.Reason.{Explains}
+use Rattle.formula.proofs.Reason.{explains_truth}
+use Rattle.formula.specs.Over.{over}
+use Rattle.formula.proofs.Over.{over_none}
 use Rattle.formula.specs.Ask.{yes, Entries, free_mask, ask}
 use Rattle.formula.specs.Ask as Question
+use Rattle.formula.proofs.Ask as QuestionLaws
 use Rattle.formula.specs.Gauges.{unread, ours, possible, assured, no_at, verdict}
-use Rattle.formula.specs.GaugeLaws.{unread-free, unread-apart, ours-free, ours-entered, ours-unread, may_free, set_entered, possible-ask, every-assured, assured-every, verdict-yes, verdict-no, verdict-plain}
+use Rattle.formula.proofs.GaugeLaws.{unread-free, unread-apart, ours-free, ours-entered, ours-unread, may_free, set_entered, possible-ask, every-assured, assured-every, verdict-yes, verdict-no, verdict-plain}
 use Rattle.form.specs.Form.{word_end}
 use Rattle.form.specs.declared.Form.{Form}
 use Rattle.sheet.specs.Fields.{Sheet, frames, variables}
 use Rattle.sheet.specs.Frames.{formula}
 use Rattle.sheet.specs.Rules.{gauges}
-use Rattle.records.specs.Table.{grown_trans}
-use Rattle.records.specs.Both.{tables_then}
+use Rattle.records.proofs.Table.{grown_trans}
+use Rattle.records.proofs.Both.{tables_then}
 use Rattle.net.specs.Stands.{Serves, over_serves, mask_below}
 use Rattle.net.specs.Layout.{net_form, frames_of, free_of, gauges_of, formula_at, val}
 use Rattle.net.specs.Sheet.{NetOf, net-form}
@@ -127,7 +133,7 @@ module _ {s : Sheet} {net : List ℕ} {mask values : ℕ} {u : List ℕ} {cu : �
       let e = verdict-plain g ready_entries q in (
         rw e x.0,
         x.1,
-        rw e (x.2.0, λ h. rw (q, or_zero_r mask, (Question.ask-none n f mask values h).1, add-zero values) (x.2.1 h)),
+        rw e (x.2.0, λ h. rw (q, or_zero_r mask, (QuestionLaws.ask-none n f mask values h).1, add-zero values) (x.2.1 h)),
       )
 
   -- ---- a setting fails

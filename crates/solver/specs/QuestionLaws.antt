@@ -5,11 +5,15 @@ use Rattle.std.proofs.Math.Path.{ap}
 use Rattle.std.proofs.Math.Bool.{true, false}
 use Rattle.std.proofs.lemmas.List.{length-replicate}
 use Rattle.std.specs.Int.Bits.{bit_or, or_zero_r}
-use Rattle.words.specs.Logic.{clash, and_both, not-true}
-use Rattle.words.specs.Word.{bit, bit-or, bit-none}
-use Rattle.words.specs.Mask.{Apart, without, without-sum, apart-bits, apart-sub, apart-sym, sub-or-right}
+use Rattle.words.specs.Logic.{not-true}
+use Rattle.words.proofs.Logic.{clash, and_both}
+use Rattle.words.specs.Word.{bit}
+use Rattle.words.proofs.Word.{bit-or, bit-none}
+use Rattle.words.specs.Mask.{Apart, without}
+use Rattle.words.proofs.Mask.{without-sum, apart-bits, apart-sub, apart-sym, sub-or-right}
 use Rattle.formula.specs.Formula.{Formula, free}
-use Rattle.formula.specs.Over.{over, over-free, over_none}
+use Rattle.formula.specs.Over.{over}
+use Rattle.formula.proofs.Over.{over-free, over_none}
 use Rattle.form.specs.declared.Form.{Form}
 use Rattle.sheet.specs.Fields.{Sheet}
 use Rattle.sheet.specs.Frames.{formula}

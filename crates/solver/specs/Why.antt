@@ -3,18 +3,23 @@ use Rattle.std.specs.Prelude.{ℕ, suc, ◌-◌, ◌≤◌, ◌<◌, ◌^◌, �
 use Rattle.std.proofs.Common.{arith, sym, ◌∙◌, eqb-true}
 use Rattle.std.proofs.Math.Path.{ap}
 use Rattle.std.specs.Int.Bits.{bit_or}
-use Rattle.words.specs.Logic.{by_bool, clash, not-not}
-use Rattle.words.specs.Word.{bit, bit-pow}
-use Rattle.words.specs.Mask.{Sub, Apart, without, sub_refl, bits_apart, bits_sub, sub_trans, sub-without, without_sub, without-apart, apart-sub, apart-sym, apart-bits}
-use Rattle.cube.specs.Cube.{Freed, freed_sub, freed_one}
+use Rattle.words.proofs.Logic.{by_bool, clash, not-not}
+use Rattle.words.specs.Word.{bit}
+use Rattle.words.proofs.Word.{bit-pow}
+use Rattle.words.specs.Mask.{Sub, Apart, without}
+use Rattle.words.proofs.Mask.{sub_refl, bits_apart, bits_sub, sub_trans, sub-without, without_sub, without-apart, apart-sub, apart-sym, apart-bits}
+use Rattle.cube.specs.Cube.{Freed}
+use Rattle.cube.proofs.CubeLaws.{freed_sub, freed_one}
 use Rattle.formula.specs.Assignment.{On}
 use Rattle.formula.specs.Formula.{Formula}
-use Rattle.formula.specs.Reason.{Explains, explains_truth, explains_set}
+use Rattle.formula.specs.Reason.{Explains}
+use Rattle.formula.proofs.Reason.{explains_truth, explains_set}
 use Rattle.formula.specs.Over.{over}
-use Rattle.formula.specs.Why.{reduce, explains_always, fails-always, reduce-drop, reduce-keep, reduce_skip}
-use Rattle.form.specs.Form.{few-variables}
+use Rattle.formula.specs.Why.{reduce}
+use Rattle.formula.proofs.Why.{explains_always, fails-always, reduce-drop, reduce-keep, reduce_skip}
+use Rattle.form.proofs.FormLaws.{few-variables}
 use Rattle.sheet.specs.Fields.{Sheet, variables}
-use Rattle.records.specs.Both.{tables_same, tables_then}
+use Rattle.records.proofs.Both.{tables_same, tables_then}
 use Rattle.net.specs.Layout.{net_form, free_of, val, val_flip}
 use Rattle.net.specs.Sheet.{net-form}
 use Rattle.search.specs.Search.{Found, Lost}

@@ -4,10 +4,13 @@ use Rattle.std.proofs.Common.{arith, sym, ◌∙◌, ne_eqb}
 use Rattle.std.proofs.Math.Path.{refl, ap}
 use Rattle.std.proofs.Math.Bool.{false}
 use Rattle.words.specs.Word.{bit}
-use Rattle.words.specs.Mask.{Sub, Apart, without, sub-bits, sub_refl, bits_apart, without-apart, or_apart, apart-sub, apart-sym}
-use Rattle.cube.specs.Cube.{Made, made_sub, made_same}
+use Rattle.words.specs.Mask.{Sub, Apart, without}
+use Rattle.words.proofs.Mask.{sub-bits, sub_refl, bits_apart, without-apart, or_apart, apart-sub, apart-sym}
+use Rattle.cube.specs.Cube.{Made}
+use Rattle.cube.proofs.CubeLaws.{made_sub, made_same}
 use Rattle.formula.specs.Formula.{Formula, free}
-use Rattle.formula.specs.Reason.{Explains, explains_truth, explains_set}
+use Rattle.formula.specs.Reason.{Explains}
+use Rattle.formula.proofs.Reason.{explains_truth, explains_set}
 use Rattle.formula.specs.Why.{reduce, why, start_mask, start_word}
 use Rattle.sheet.specs.Fields.{Sheet, variables}
 use Rattle.net.specs.Stands.{mask_decided, mask-undecided}
@@ -19,7 +22,7 @@ use Rattle.solver.specs.Across.{found_serves, lost_serves}
 use Rattle.solver.specs.Question.{asked}
 use Rattle.solver.specs.Ask.{reason-free, word-free, ask-found, ask-lost}
 use Rattle.formula.specs.Gauges.{possible, assured}
-use Rattle.formula.specs.GaugeLaws.{unread-free, unread-apart, ours-free, ours-entered, ours-unread, verdict-holds, assured-entered, reason-plain, reason-is}
+use Rattle.formula.proofs.GaugeLaws.{unread-free, unread-apart, ours-free, ours-entered, ours-unread, verdict-holds, assured-entered, reason-plain, reason-is}
 use Rattle.sheet.specs.Rules.{gauges}
 use Rattle.solver.specs.GaugedAsk.{ready_entries}
 use Rattle.solver.specs.Aim.{asked_of, Aimed, aimed_none, asked-none, aimed_serves, aimed_inside, plain_reach}

@@ -1,13 +1,9 @@
 pub mod Hex
-pub mod HexLaws
 pub mod Line
-pub mod LineLaws
 pub mod Reading
 pub mod ReadingLaws
 pub mod Answer
 pub mod LineStores
-pub mod AnswerLaws
 pub mod Grammar
 pub mod RoundTrip
-pub mod Exactly
 pub mod Prefix

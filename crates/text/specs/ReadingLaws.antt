@@ -6,98 +6,18 @@ use Rattle.std.proofs.Math.ListN.{drop}
 use Rattle.std.proofs.lemmas.List.Edits.{sets}
 use Rattle.std.proofs.Math.Seq.{drop-drop}
 use borrow.Author.Tests.{lt-ltb, le-ltb, ltb-false, ne_eqb}
-use Rattle.words.specs.Logic.{by_bool, tests}
-use Rattle.words.specs.Stores.{sets-start}
+use Rattle.words.specs.Logic.{tests}
+use Rattle.words.proofs.Logic.{by_bool}
+use Rattle.words.proofs.Stores.{sets-start}
 use Rattle.form.specs.Form.{form_of, frame_bytes, most_frames}
 use Rattle.form.specs.declared.Form.{Form}
 use Rattle.form.specs.declared.Form.TheVariants.{Narrow, Wide}
 use Rattle.text.specs.Line.{Lines, lines, line_size, ending, LinesAt}
-use Rattle.text.specs.LineLaws.{one_size, size-no_empty, lines_stop, lines-count, frames-length}
 use Rattle.text.specs.Reading.{script_frames, script_frame_bytes, sheet_room, script_room, malformed, long_sheet, long_script, no_room, other_form, Reading, refused, accepted, begins_wide, text_form, other, sheet_fault, read_script, read_sheet, reading_in, reading, read_into, Parts, Scanned, Read}
 use Rattle.text.specs.declared.line.Counted.{Counted}
 use Rattle.text.specs.declared.Parsed.{Parsed}
 use Rattle.text.specs.declared.layout.Layout.{Layout}
 use Rattle.text.specs.declared.layout.Layout.TheVariants.{Refused, Accepted}
-
--- ---- the two forms
-
--- the bytes of a line, as the code asks for them
-pub few_bytes : (F : Form) → frame_bytes F ≤ 16
-few_bytes Narrow = omega arith
-few_bytes Wide = omega arith
-
-pub some_bytes : (F : Form) → 0 < frame_bytes F
-some_bytes Narrow = omega arith
-some_bytes Wide = omega arith
-
--- the buffer for a sheet has room for either
-pub sheet-room : (F : Form) (n : ℕ) → n ≤ most_frames F → n * frame_bytes F ≤ sheet_room
-sheet-room Narrow n h = omega arith
-sheet-room Wide n h = omega arith
-
--- no line is of both forms
-pub one_form : (F : Form) (l : List ℕ) → 0 < line_size (frame_bytes F) l → 0 < line_size (frame_bytes (other F)) l → ⊥
-one_form Narrow l p q = one_size 4 7 l (omega arith) p q
-one_form Wide l p q = one_size 4 7 l (omega arith) q p
-
-module _ (F : Form) (l : List ℕ) (size : ℕ) (e : size ≡ line_size (frame_bytes (other F)) l) where
-  pub fault_shape : size ≤ 0 → sheet_fault F l ≡ malformed
-  unfolding sheet_fault
-  fault_shape h = rw (← e, le-ltb 0 size h)
-
-  pub fault_other : 0 < size → sheet_fault F l ≡ other_form
-  unfolding sheet_fault
-  fault_other h = rw (← e, lt-ltb 0 size h)
-
--- ---- through a text
-
--- the lines that were counted are those that are asked for by their count
-counted : (w : ℕ) (text : List ℕ) (from most : ℕ) (r : Counted) → LinesAt w text from most r → lines w r.count (drop from text) ≡ lines w most (drop from text)
-counted w text from most r p = ap (λ (n : ℕ). lines w n (drop from text)) p.count ∙ lines-count w most (drop from text)
-
--- the sheet's lines, by the sizes as the code has them
-module _ (F : Form) (text : List ℕ) (w most : ℕ) (size : w ≡ frame_bytes F) (frames : most ≡ most_frames F) (a : Counted) (lines_at : LinesAt w text 0 (most + 1) a) where
-  p : LinesAt (frame_bytes F) text 0 (suc (most_frames F)) a
-  p = rw (size, frames, add-one) at lines_at
-
-  pub long-sheet : most + 1 ≤ a.count → reading_in F text ≡ refused F long_sheet
-  unfolding reading_in
-  long-sheet h = rw (← p.count, lt-ltb (most_frames F) a.count (omega (arith, frames)))
-
-  module _ (below : a.count < most + 1) (gap : ℕ) (e : gap ≡ ending (drop a.end text)) where
-    short : a.count ≤ most_frames F
-    short = omega (arith, frames)
-
-    pub no_empty_line : gap ≡ 0 → reading_in F text ≡ refused F (sheet_fault F (drop a.end text))
-    unfolding reading_in
-    no_empty_line z = rw (← p.count, le-ltb (most_frames F) a.count short, ← p.rest, ← e, z)
-
-    module _ (some : gap ≡ 0 → ⊥) where
-      behind : reading_in F text ≡ read_script F (lines (frame_bytes F) (suc (most_frames F)) text) (lines script_frame_bytes (suc script_frames) (drop (a.end + gap) text))
-      unfolding reading_in
-      behind = rw (← p.count, le-ltb (most_frames F) a.count short, ← p.rest, ← e, ne_eqb gap 0 some, drop-drop gap)
-
-      module _ (b : Counted) (q : LinesAt script_frame_bytes text (a.end + gap) (suc script_frames) b) where
-        pub long-script : script_frames < b.count → reading_in F text ≡ refused F long_script
-        long-script h = behind ∙ rw (← q.count, lt-ltb script_frames b.count h)
-
-        pub bad_line : b.count ≤ script_frames → b.end < length text → reading_in F text ≡ refused F malformed
-        bad_line s h =
-            behind
-            ∙ rw (← q.count, le-ltb script_frames b.count s, ← q.rest, length-drop, lt-ltb 0 (length text - b.end) (omega arith))
-
-        pub parts : b.count ≤ script_frames → length text ≤ b.end → a.end + gap ≤ length text → Parts F text a.count (a.end + gap) b.count
-        parts s h w = record {
-          accepts =
-              behind
-              ∙ rw (← q.count, le-ltb script_frames b.count s, ← q.rest, length-drop, le-ltb 0 (length text - b.end) (omega arith))
-              (ap₂ (accepted F) (sym (counted (frame_bytes F) text 0 (suc (most_frames F)) a p)) (sym (counted script_frame_bytes text (a.end + gap) (suc script_frames) b q)));
-          sheet-lines = ap (λ (k : Lines). k.count) (counted (frame_bytes F) text 0 (suc (most_frames F)) a p) ∙ sym p.count;
-          script_lines = ap (λ (k : Lines). k.count) (counted script_frame_bytes text (a.end + gap) (suc script_frames) b q) ∙ sym q.count;
-          sheet-most = short;
-          script_most = s;
-          within = w;
-        }
 
 -- ---- what is read is of whole frames, and no more of them than there may be
 
@@ -107,145 +27,8 @@ pub record Framed (w n : ℕ) (l : List ℕ) : Type 0 where
   pub whole : length l ≡ count * w
   pub most : count ≤ n
 
-no_frames : (w n : ℕ) → Framed w n []
-no_frames w n = record { count = 0; whole = sym (zero-mul w); most = omega arith }
-
-frames-of : (w n most : ℕ) (l : List ℕ) → ltb n (lines w most l).count ≡ false → Framed w n (lines w most l).frames
-frames-of w n most l e = record { count = (lines w most l).count; whole = frames-length w most l; most = ltb-false n (lines w most l).count e }
-
--- what holds of every refusal and of what is accepted holds of what a text of the form reads to
-module _ (F : Form) (text : List ℕ) (A : Reading → Type 0) (refuses : (n : ℕ) → A (refused F n))
-    (accepts : (rest : List ℕ) → ltb (most_frames F) (lines (frame_bytes F) (suc (most_frames F)) text).count ≡ false
-    → ltb script_frames (lines script_frame_bytes (suc script_frames) rest).count ≡ false
-    → A (accepted F (lines (frame_bytes F) (suc (most_frames F)) text) (lines script_frame_bytes (suc script_frames) rest))) where
-  by-reading : A (reading_in F text)
-  unfolding reading_in
-  by-reading =
-      let a = lines (frame_bytes F) (suc (most_frames F)) text in
-      let rest = drop (ending a.rest) a.rest in
-      let b = lines script_frame_bytes (suc script_frames) rest in
-      by_bool (ltb (most_frames F) a.count) (λ t. rw t (refuses long_sheet))
-      (λ f. by_bool (eqb (ending a.rest) 0) (λ t. rw (f, t) (refuses (sheet_fault F a.rest)))
-      (λ g. by_bool (ltb script_frames b.count) (λ t. rw (f, g, t) (refuses long_script))
-      (λ h. by_bool (ltb 0 (length b.rest)) (λ t. rw (f, g, h, t) (refuses malformed))
-      (λ k. rw (f, g, h, k) (accepts rest f h)))))
-
--- The form that is told is the text's, of refused texts too.
-pub form_told : (text : List ℕ) → (reading text).form ≡ text_form text
-unfolding reading
-form_told text = by-reading (text_form text) text (λ (r : Reading). r.form ≡ text_form text) (λ n. refl) (λ rest f h. refl)
-
-pub sheet_framed : (text : List ℕ) → Framed (frame_bytes (text_form text)) (most_frames (text_form text)) (reading text).sheet
-unfolding reading
-sheet_framed text =
-    let F = text_form text in
-    by-reading F text (λ (r : Reading). Framed (frame_bytes F) (most_frames F) r.sheet) (λ n. no_frames (frame_bytes F) (most_frames F))
-    (λ rest f h. frames-of (frame_bytes F) (most_frames F) (suc (most_frames F)) text f)
-
-pub script_framed : (text : List ℕ) → Framed script_frame_bytes script_frames (reading text).script
-unfolding reading
-script_framed text =
-    by-reading (text_form text) text (λ (r : Reading). Framed script_frame_bytes script_frames r.script) (λ n. no_frames script_frame_bytes script_frames)
-    (λ rest f h. frames-of script_frame_bytes script_frames (suc script_frames) rest h)
-
 -- ---- narrow texts
 
 -- what a text reads to where narrow lines are the only ones, and every other line is malformed
 abbrev pub narrow_alone : List ℕ → Reading
 narrow_alone text = read_sheet Narrow (λ l. malformed) (lines (frame_bytes Narrow) (suc (most_frames Narrow)) text)
-
--- A text that does not begin with an ended line of fourteen digits reads to the same, but that 29 may stand where 1 did.
-pub narrow-reads : (text : List ℕ) → begins_wide text ≡ false
-    → (reading text ≡ narrow_alone text) ⊎ ((reading text ≡ refused Narrow other_form) × (narrow_alone text ≡ refused Narrow malformed))
-unfolding reading reading_in sheet_fault
-narrow-reads text e =
-    let a = lines (frame_bytes Narrow) (suc (most_frames Narrow)) text in
-    rw e
-    (by_bool (ltb (most_frames Narrow) a.count) (λ t. inl (rw t))
-    (λ f. by_bool (eqb (ending a.rest) 0)
-    (λ t. by_bool (ltb 0 (line_size (frame_bytes Wide) a.rest)) (λ o. inr (rw (f, t, o), rw (f, t))) (λ o. inl (rw (f, t, o))))
-    (λ g. inl (rw (f, g)))))
-
--- One that does is malformed there.
-pub wide_alone : (text : List ℕ) → begins_wide text ≡ true → narrow_alone text ≡ refused Narrow malformed
-unfolding begins_wide
-wide_alone text e =
-    let w = frame_bytes Narrow in
-    let p : 0 < line_size (frame_bytes Wide) text = omega tests in
-    let z : line_size w text ≡ 0 = by_bool (ltb 0 (line_size w text)) (λ t. absurd (one_form Narrow text (omega tests) p)) (λ f. omega tests) in
-    ap (read_sheet Narrow (λ l. malformed)) (lines_stop w (most_frames Narrow) text z) ∙ rw (size-no_empty (frame_bytes Wide) text (omega arith) p)
-
--- So a text that is accepted there reads to the same.
-pub accepted_alone : (text : List ℕ) → (narrow_alone text).refusal ≡ 0 → reading text ≡ narrow_alone text
-accepted_alone text e =
-    by_bool (begins_wide text) (λ t. absurd (omega (arith, ap (λ (r : Reading). r.refusal) (wide_alone text t))))
-    (λ f. ⊎_elim (λ same. same) (λ p. absurd (omega (arith, ap (λ (r : Reading). r.refusal) p.1))) (narrow-reads text f))
-
--- ---- with the buffers' lengths
-
-module _ (sheet script : ℕ) (text : List ℕ) where
-  pub small_sheet : sheet < sheet_room → read_into sheet script text ≡ refused Narrow no_room
-  unfolding read_into
-  small_sheet h = rw (lt-ltb sheet sheet_room h)
-
-  pub small_script : script < script_room → read_into sheet script text ≡ refused Narrow no_room
-  unfolding read_into
-  small_script h = rw (lt-ltb script script_room h, or-true)
-
-  pub enough-room : sheet_room ≤ sheet → script_room ≤ script → read_into sheet script text ≡ reading text
-  unfolding read_into
-  enough-room h k = rw (le-ltb sheet sheet_room h, le-ltb script script_room k)
-
--- ---- the two ways that reading ends
-
--- a text's form is that which its first line tells
-pub form_reads : (wide : Bool) (text : List ℕ) → wide ≡ begins_wide text → reading text ≡ reading_in (form_of wide) text
-unfolding reading
-form_reads wide text e = rw e
-
-module _ (F : Form) (text : List ℕ) (r : Layout) where
-  pub scan_refused : (n : ℕ) → r ≡ Refused n → Scanned F text r → reading_in F text ≡ refused F n
-  unfolding Scanned
-  scan_refused n e h = rw e at h
-
-  pub scan_accepted : (n start m : ℕ) → r ≡ Accepted n start m → Scanned F text r → Parts F text n start m
-  unfolding Scanned
-  scan_accepted n start m e h = rw e at h
-
-pub read_refused : (text sheet script : List ℕ) (wide : Bool) (n : ℕ) (r : Parsed) → read_into (length sheet) (length script) text ≡ refused (form_of wide) n
-    → (r.wide ≡ wide) × (r.refusal ≡ n) × (r.sheet ≡ 0) × (r.script ≡ 0) → Read text sheet script r sheet script
-read_refused text sheet script wide n r e h = record {
-  form = rw e (ap form_of h.0);
-  refusal = rw e h.1;
-  sheet-length = rw e h.2;
-  script_length = rw e h.3;
-  sheet-bytes = rw e;
-  script_bytes = rw e;
-  sheet-fits = omega (arith, h.2);
-  script-fits = omega (arith, h.3);
-}
-
-module _ (text sheet script : List ℕ) (wide : Bool) (n start m : ℕ) (p : Parts (form_of wide) text n start m)
-    (e : read_into (length sheet) (length script) text ≡ reading_in (form_of wide) text) (a : sheet_room ≤ length sheet) (b : script_room ≤ length script) where
-  abbrev w : ℕ
-  w = frame_bytes (form_of wide)
-
-  -- the frames' bytes, and that there is room for them
-  sheet-size : length (lines w n text).frames ≡ n * w
-  sheet-size = frames-length w n text ∙ ap (λ (k : ℕ). k * w) p.sheet-lines
-
-  script_size : length (lines script_frame_bytes m (drop start text)).frames ≡ m * script_frame_bytes
-  script_size = frames-length script_frame_bytes m (drop start text) ∙ ap (λ (k : ℕ). k * script_frame_bytes) p.script_lines
-
-  pub read_accepted : (size : ℕ) → size ≡ w → (sheet' script' : List ℕ) → sheet' ≡ sets sheet 0 (lines size n text).frames → script' ≡ sets script 0 (lines script_frame_bytes m (drop start text)).frames
-      → Read text sheet script (record { wide = wide; refusal = 0; sheet = n * size; script = m * script_frame_bytes }) sheet' script'
-  read_accepted size d sheet' script' f g = record {
-    form = rw (e, p.accepts);
-    refusal = rw (e, p.accepts);
-    sheet-length = rw (e, p.accepts, d) (sym sheet-size);
-    script_length = rw (e, p.accepts) (sym script_size);
-    sheet-bytes = rw (e, p.accepts) (rw d at f ∙ sets-start (lines w n text).frames sheet (omega (arith, sheet-size, sheet-room (form_of wide) n p.sheet-most)));
-    script_bytes = rw (e, p.accepts) (g ∙ sets-start (lines script_frame_bytes m (drop start text)).frames script (omega (arith, script_size, p.script_most)));
-    sheet-fits = rw d (sheet-room (form_of wide) n p.sheet-most);
-    script-fits = omega (arith, p.script_most);
-  }

@@ -1,2 +1,1 @@
 pub mod Converted
-pub mod ConvertedLaws

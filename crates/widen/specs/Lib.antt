@@ -1,3 +1,1 @@
 pub mod Widen
-pub mod WidenLaws
-pub mod Certificate

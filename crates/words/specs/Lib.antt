@@ -2,4 +2,3 @@ pub mod Logic
 pub mod Word
 pub mod Mask
 pub mod Bytes
-pub mod Stores

@@ -2,7 +2,7 @@
 use native.Mathlib.Omega.{arith}
 use mathlib.Core.Path.{refl, sym, ◌∙◌}
 use mathlib.Core.Bool.{false}
-use Rattle.words.specs.Logic.{clash}
+use Rattle.words.proofs.Logic.{clash}
 use Rattle.net.specs.Layout.{binds-below}
 use Rattle.absorb.specs.ConeLaws.{free-at}
 use Rattle.absorb.specs.SheetLaws.{small_form, small_low, absorbable}

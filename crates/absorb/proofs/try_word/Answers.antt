@@ -1,6 +1,6 @@
 -- `absorb::try_word` meets its contract. Assumes nothing.
 use native.Mathlib.Omega.{arith}
-use Rattle.words.specs.Mask.{top_less}
+use Rattle.words.proofs.Mask.{top_less}
 use mathlib.Core.Path.{◌∙◌}
 use Rattle.absorb.specs.SheetLaws.{kept-none, kept_then, kept-count, kept-room}
 use Rattle.absorb.proofs.try_word.Goals as goal

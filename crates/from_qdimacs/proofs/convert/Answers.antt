@@ -1,6 +1,6 @@
 -- `from_qdimacs::convert` meets its contract: the lines of what was read, or that of the refusal. Assumes nothing.
 use Rattle.std.proofs.Common.{arith}
-use Rattle.from_qdimacs.specs.ConvertedLaws.{read-sheet, sheet-fits, sheet-counted, refusal-printed, sheet-printed}
+use Rattle.from_qdimacs.proofs.ConvertedLaws.{read-sheet, sheet-fits, sheet-counted, refusal-printed, sheet-printed}
 use Rattle.from_qdimacs.proofs.convert.Goals as goal
 
 pub returns-then-parsed-ne0 : goal.returns-then-parsed-ne0

@@ -2,7 +2,7 @@
 use mathlib.Core.Path.{refl, ap}
 use lib.Bits.{bit_or}
 use borrow.Author.Tests.{eq-eqb, ne_eqb}
-use Rattle.words.specs.Logic.{clash}
+use Rattle.words.proofs.Logic.{clash}
 use Rattle.net.specs.Layout.{val}
 use Rattle.imply.proofs.with.Goals as goal
 

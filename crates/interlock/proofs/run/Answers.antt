@@ -4,7 +4,7 @@ use Rattle.std.specs.declared.option.Option.{Option}
 use Rattle.std.specs.Io.KnownBytes.{Appends}
 use Rattle.text.specs.Prefix.{decisive}
 use Rattle.response.specs.Printed.{printed}
-use Rattle.response.specs.Lines.{printed-prefix}
+use Rattle.response.proofs.Lines.{printed-prefix}
 use Rattle.interlock.proofs.run.Goals as goal
 
 shown : {E : Type 0} (r : Result (Unit {0}) E) (known old new : Option (List ℕ)) (read lines : List ℕ) (k : ℕ)

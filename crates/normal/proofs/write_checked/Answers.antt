@@ -13,7 +13,7 @@
 -- src/lib.rt:64:1
 -- src/lib.rt:64:1
 -- src/lib.rt:64:1
-use Rattle.normal.specs.WriteLaws.{visited_few, write_refused, checked_keeps, write_short, write_written}
+use Rattle.normal.proofs.WriteLaws.{visited_few, write_refused, checked_keeps, write_short, write_written}
 use Rattle.sheet.specs.Fields.{sheet_of}
 use Rattle.form.specs.Form.{form_of}
 use native.Mathlib.Omega.{arith}

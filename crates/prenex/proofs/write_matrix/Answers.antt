@@ -3,7 +3,7 @@ use borrow.Author.Rules.{rules}
 use Prim.Native.Nat.{◌≤◌}
 use native.Mathlib.Omega.{arith}
 use Rattle.words.specs.Word.{bit}
-use Rattle.prenex.specs.MatrixStores.{ends-room, ends_members, literals-written, matrix-written}
+use Rattle.prenex.proofs.MatrixStores.{ends-room, ends_members, literals-written, matrix-written}
 use Rattle.prenex.proofs.write_matrix.Goals as goal
 
 pub write_conjunction-requires : goal.write_conjunction-requires

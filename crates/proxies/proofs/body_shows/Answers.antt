@@ -3,7 +3,7 @@ use Prim.Native.Nat.{ℕ, ◌-◌}
 use native.Mathlib.Omega.{arith}
 use mathlib.Core.Path.{◌≡◌, refl, ap}
 use borrow.Author.Rules.{rules}
-use Rattle.words.specs.Logic.{clash}
+use Rattle.words.proofs.Logic.{clash}
 use Rattle.net.specs.Layout.{decides-some, decides-low}
 use Rattle.proxies.proofs.body_shows.Goals as goal
 

@@ -1,8 +1,8 @@
 -- `proxies::note` meets its contract: behind the frames, and of a changed node, the tables are as they were. Assumes nothing.
 use native.Mathlib.Omega.{arith}
 use mathlib.Core.Path.{sym, ◌∙◌}
-use Rattle.words.specs.Logic.{clash}
-use Rattle.proxies.specs.Growing.{growing_same}
+use Rattle.words.proofs.Logic.{clash}
+use Rattle.proxies.proofs.Growing.{growing_same}
 use borrow.Author.Rules.{rules}
 use Rattle.proxies.proofs.note.Goals as goal
 

@@ -5,7 +5,7 @@ use native.Mathlib.Omega.{arith}
 use mathlib.Core.Path.{◌≡◌, refl, sym, ap, ◌∙◌}
 use lib.ListN.{length, drop, length-set, drop_of_length-le}
 use lib.Seq.{sets}
-use Rattle.words.specs.Stores.{sets-next, sets-start}
+use Rattle.words.proofs.Stores.{sets-next, sets-start}
 use Rattle.qdimacs.proofs.copy.Given as goal
 
 abbrev pub invariant-loop-i : goal.invariant-loop-i

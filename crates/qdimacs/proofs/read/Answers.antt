@@ -4,7 +4,7 @@ use borrow.Author.Tests.{not-true, not-false}
 use native.Mathlib.Omega.{arith}
 use mathlib.Core.Path.{refl, sym, ap, ◌∙◌}
 use lib.ListN.{length}
-use Rattle.qdimacs.specs.ReadLaws.{headed-found, found-few, found-asked, read_short, read_broken, read_many_variables, read_many_frames, read_settled, sheet-size, sheet-few, sheet-taken, read_accepted}
+use Rattle.qdimacs.proofs.ReadLaws.{headed-found, found-few, found-asked, read_short, read_broken, read_many_variables, read_many_frames, read_settled, sheet-size, sheet-few, sheet-taken, read_accepted}
 use Rattle.qdimacs.proofs.read.Goals as goal
 
 pub returns-then-sheet-lt-SHEET_BYTES : goal.returns-then-sheet-lt-SHEET_BYTES

@@ -1,10 +1,10 @@
 -- `records::locate` meets its contract: with every variable assigned, a record matches exactly if it agrees. Assumes nothing.
 use mathlib.Core.Path.{◌≡◌, sym}
 use native.Mathlib.Omega.{arith}
-use Rattle.form.specs.Form.{room_fits}
+use Rattle.form.proofs.FormLaws.{room_fits}
 use Rattle.records.specs.declared.Found.TheVariants.{At, Nothing}
-use Rattle.records.specs.Find.{hit_under_full, hit-over-full, hit_under, hit-over, hit_neither}
-use Rattle.records.specs.Locate.{first-is, first-none}
+use Rattle.records.proofs.FindLaws.{hit_under_full, hit-over-full, hit_under, hit-over, hit_neither}
+use Rattle.records.proofs.LocateLaws.{first-is, first-none}
 use borrow.Author.Rules.{rules}
 use Rattle.records.proofs.locate.Goals as goal
 

@@ -4,7 +4,7 @@ use Prim.Native.Nat.{◌≤◌, ◌-◌}
 use native.Mathlib.Omega.{arith}
 use borrow.Author.Rules.{rules}
 use borrow.Author.Count.{below_more}
-use Rattle.form.specs.Form.{fits-room}
+use Rattle.form.proofs.FormLaws.{fits-room}
 use Rattle.records.specs.Table.{matches}
 use Rattle.records.specs.Search.{NoneBelow}
 use Rattle.records.proofs.search.Given as goal

@@ -1,6 +1,6 @@
 -- `response::print_answers` meets its contract: all lines have room, or nothing is written. Assumes nothing.
 use borrow.Author.Rules.{rules}
-use Rattle.response.specs.PrintedLaws.{no_room_lem, wrote_all}
+use Rattle.response.proofs.PrintedLaws.{no_room_lem, wrote_all}
 use Rattle.form.specs.declared.Form.TheVariants.{Narrow}
 use Rattle.response.proofs.print_answers.Goals as goal
 

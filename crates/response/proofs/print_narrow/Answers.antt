@@ -2,7 +2,7 @@
 -- Assumes nothing.
 use borrow.Author.Rules.{rules}
 use native.Mathlib.Omega.{arith}
-use Rattle.response.specs.PrintedLaws.{prints-same, counted, place-fits, run-refused, answers-start, run_answered}
+use Rattle.response.proofs.PrintedLaws.{prints-same, counted, place-fits, run-refused, answers-start, run_answered}
 use Rattle.response.proofs.print_narrow.Goals as goal
 
 pub overflow_cast-place : goal.overflow_cast-place

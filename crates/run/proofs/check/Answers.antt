@@ -1,6 +1,6 @@
 -- `run::check` meets its contract.
 use Rattle.sheet.specs.Fields.{sheet_of}
-use Rattle.certificate.specs.Checking.{size_checks, size_none, script_checks, frames_checks}
+use Rattle.certificate.proofs.Checking.{size_checks, size_none, script_checks, frames_checks}
 use Rattle.run.proofs.check.Goals as goal
 
 pub returns-then-size-ne0 : goal.returns-then-size-ne0

@@ -2,7 +2,7 @@
 use Rattle.form.specs.Form.{form_of}
 use Rattle.sheet.specs.Fields.{sheet_of}
 use Rattle.net.specs.Sheet.{checked_net}
-use Rattle.certificate.specs.Progress.{run_room, run_checked, run-gauged, run-accepted, run-refused}
+use Rattle.certificate.proofs.Progress.{run_room, run_checked, run-gauged, run-accepted, run-refused}
 use Rattle.run.proofs.run_form.Goals as goal
 
 pub returns-then-checked-ne0 : goal.returns-then-checked-ne0

@@ -3,7 +3,7 @@ use Rattle.std.proofs.Common.{◌≡◌, ◌<◌, arith, sym, ◌∙◌}
 use borrow.Author.Tests.{ltb-true}
 use Rattle.words.specs.Logic.{tests}
 use Rattle.model.specs.Model.{lines}
-use Rattle.certificate.specs.Progress.{turns_none, turns_next, turns_asked}
+use Rattle.certificate.proofs.Progress.{turns_none, turns_next, turns_asked}
 use Rattle.run.proofs.run_lines.Goals as goal
 
 pub loop-turn-init : goal.loop-turn-init

@@ -3,7 +3,7 @@ use borrow.Author.Tests.{eq-eqb, ne_eqb, lt-ltb, le-ltb}
 use Rattle.sheet.specs.Cause.{first}
 use Rattle.model.specs.Model.{lines}
 use Rattle.certificate.specs.Run.{script_causes, room_causes}
-use Rattle.certificate.specs.Checking.{room-short, room-enough}
+use Rattle.certificate.proofs.Checking.{room-short, room-enough}
 use Rattle.run.proofs.script_fault.Goals as goal
 
 pub returns-then-script-ne0 : goal.returns-then-script-ne0

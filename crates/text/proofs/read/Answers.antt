@@ -4,7 +4,7 @@ use native.Mathlib.Omega.{arith}
 use mathlib.Core.Bool.{false}
 use mathlib.Core.Path.{ap, ◌∙◌}
 use Rattle.form.specs.Form.{form_of, frame_bytes}
-use Rattle.text.specs.ReadingLaws.{few_bytes, sheet-room, small_sheet, small_script, enough-room, form_reads, scan_refused, scan_accepted, read_refused, read_accepted}
+use Rattle.text.proofs.ReadingLaws.{few_bytes, sheet-room, small_sheet, small_script, enough-room, form_reads, scan_refused, scan_accepted, read_refused, read_accepted}
 use Rattle.text.proofs.read.Goals as goal
 
 pub returns-then-sheet-lt-SHEET_BYTES : goal.returns-then-sheet-lt-SHEET_BYTES

@@ -1,7 +1,7 @@
 -- `to_normal::print` meets its contract: the part that is handed on holds the sheet's bytes that were read. Assumes nothing.
 use borrow.Author.Rules.{rules}
 use native.Mathlib.Omega.{arith}
-use Rattle.to_normal.specs.PrintedLaws.{begins-same, sheet-begins, text_refused, text_read}
+use Rattle.to_normal.proofs.PrintedLaws.{begins-same, sheet-begins, text_refused, text_read}
 use Rattle.to_normal.proofs.print.Statement.{statement}
 use Rattle.to_normal.proofs.print.Tie as tie
 

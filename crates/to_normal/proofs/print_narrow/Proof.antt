@@ -1,7 +1,7 @@
 -- `to_normal::print_narrow` meets its contract: a place fits a byte, and the part that is handed on holds the normal sheet. Assumes nothing.
 use borrow.Author.Rules.{rules}
 use native.Mathlib.Omega.{arith}
-use Rattle.to_normal.specs.PrintedLaws.{begins-same, place-fits, sheet-refused, normal-begins, sheet-printed}
+use Rattle.to_normal.proofs.PrintedLaws.{begins-same, place-fits, sheet-refused, normal-begins, sheet-printed}
 use Rattle.to_normal.proofs.print_narrow.Statement.{statement}
 use Rattle.to_normal.proofs.print_narrow.Tie as tie
 

@@ -1,7 +1,7 @@
 -- `to_normal::print_wide` meets its contract: the part that is handed on holds the normal sheet. Assumes nothing.
 use borrow.Author.Rules.{rules}
 use native.Mathlib.Omega.{arith}
-use Rattle.to_normal.specs.PrintedLaws.{begins-same, sheet-refused, normal-begins, sheet-printed}
+use Rattle.to_normal.proofs.PrintedLaws.{begins-same, sheet-refused, normal-begins, sheet-printed}
 use Rattle.to_normal.proofs.print_wide.Statement.{statement}
 use Rattle.to_normal.proofs.print_wide.Tie as tie
 

@@ -1,7 +1,7 @@
 -- `to_normal::refuse` meets its contract: as many bytes as an answer. Assumes nothing.
 use borrow.Author.Rules.{rules}
 use Rattle.form.specs.declared.Form.TheVariants.{Narrow}
-use Rattle.to_normal.specs.PrintedLaws.{refusal-begins}
+use Rattle.to_normal.proofs.PrintedLaws.{refusal-begins}
 use Rattle.to_normal.proofs.refuse.Statement.{statement}
 use Rattle.to_normal.proofs.refuse.Tie as tie
 

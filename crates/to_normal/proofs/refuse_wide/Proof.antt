@@ -1,7 +1,7 @@
 -- `to_normal::refuse_wide` meets its contract: as many bytes as an answer. Assumes nothing.
 use borrow.Author.Rules.{rules}
 use Rattle.form.specs.declared.Form.TheVariants.{Wide}
-use Rattle.to_normal.specs.PrintedLaws.{refusal-begins}
+use Rattle.to_normal.proofs.PrintedLaws.{refusal-begins}
 use Rattle.to_normal.proofs.refuse_wide.Statement.{statement}
 use Rattle.to_normal.proofs.refuse_wide.Tie as tie
 

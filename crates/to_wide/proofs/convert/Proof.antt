@@ -1,7 +1,7 @@
 -- `to_wide::convert` meets its contract: the parts that are handed on hold the bytes that were read. Assumes nothing.
 use borrow.Author.Rules.{rules}
 use native.Mathlib.Omega.{arith}
-use Rattle.to_wide.specs.ConvertedLaws.{prints-same, sheet-begins, script_begins, text_wide, text_refused, text_read}
+use Rattle.to_wide.proofs.ConvertedLaws.{prints-same, sheet-begins, script_begins, text_wide, text_refused, text_read}
 use Rattle.to_wide.proofs.convert.Statement.{statement}
 use Rattle.to_wide.proofs.convert.Tie as tie
 

@@ -1,7 +1,7 @@
 -- `to_wide::convert_sheet` meets its contract: a place fits a byte, and the part that is handed on holds the wide sheet. Assumes nothing.
 use borrow.Author.Rules.{rules}
 use native.Mathlib.Omega.{arith}
-use Rattle.to_wide.specs.ConvertedLaws.{prints-same, place-fits, sheet-refused, wide-begins, sheet-converted}
+use Rattle.to_wide.proofs.ConvertedLaws.{prints-same, place-fits, sheet-refused, wide-begins, sheet-converted}
 use Rattle.to_wide.proofs.convert_sheet.Statement.{statement}
 use Rattle.to_wide.proofs.convert_sheet.Tie as tie
 

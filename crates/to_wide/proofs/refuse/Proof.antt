@@ -1,6 +1,6 @@
 -- `to_wide::refuse` meets its contract: as many bytes as an answer. Assumes nothing.
 use borrow.Author.Rules.{rules}
-use Rattle.to_wide.specs.ConvertedLaws.{refusal-prints}
+use Rattle.to_wide.proofs.ConvertedLaws.{refusal-prints}
 use Rattle.to_wide.proofs.refuse.Statement.{statement}
 use Rattle.to_wide.proofs.refuse.Tie as tie
 

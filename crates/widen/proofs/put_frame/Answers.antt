@@ -1,7 +1,7 @@
 -- `widen::put_frame` meets its contract.
 use native.Mathlib.Omega.{arith}
 use lib.ListN.{length-set}
-use Rattle.words.specs.Stores.{seven_sets}
+use Rattle.words.proofs.Stores.{seven_sets}
 use borrow.Author.Rules.{rules}
 use Rattle.widen.proofs.put_frame.Goals as goal
 

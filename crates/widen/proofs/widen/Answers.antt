@@ -2,7 +2,7 @@
 use native.Mathlib.Omega.{arith}
 use mathlib.Core.Path.{refl}
 use borrow.Author.Rules.{rules}
-use Rattle.widen.specs.WidenLaws.{widen_refused, widen_short, widen_written}
+use Rattle.widen.proofs.WidenLaws.{widen_refused, widen_short, widen_written}
 use Rattle.widen.proofs.widen.Goals as goal
 
 pub returns-then-checked-ne0 : goal.returns-then-checked-ne0

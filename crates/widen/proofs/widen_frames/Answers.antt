@@ -5,7 +5,7 @@ use native.Mathlib.Omega.{arith}
 use lib.ListN.{length}
 use lib.Seq.{sets}
 use Rattle.widen.specs.Widen.{widened_to}
-use Rattle.widen.specs.WidenLaws.{widened_none, widened-next, widened-all}
+use Rattle.widen.proofs.WidenLaws.{widened_none, widened-next, widened-all}
 use Rattle.widen.proofs.widen_frames.Goals as goal
 
 pub loop-k-init : goal.loop-k-init

@@ -2,7 +2,7 @@
 use native.Mathlib.Omega.{arith}
 use mathlib.Core.Path.{refl}
 use mathlib.Core.Bool.{false}
-use Rattle.words.specs.Logic.{clash}
+use Rattle.words.proofs.Logic.{clash}
 use Rattle.absorb.specs.ConeLaws.{gate_fixed, gate-reads, gate_flips, gate-joins}
 use Rattle.absorb.proofs.cone.gate_ok.Goals as goal
 

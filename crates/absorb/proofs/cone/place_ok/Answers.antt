@@ -2,7 +2,7 @@
 use native.Mathlib.Omega.{arith}
 use mathlib.Core.Path.{refl}
 use mathlib.Core.Bool.{false}
-use Rattle.words.specs.Logic.{clash}
+use Rattle.words.proofs.Logic.{clash}
 use Rattle.absorb.specs.ConeLaws.{placed-gate, placed-none, placed-side}
 use Rattle.absorb.proofs.cone.place_ok.Goals as goal
 

@@ -3,7 +3,7 @@ use native.Mathlib.Omega.{arith}
 use mathlib.Core.Path.{refl, ◌∙◌}
 use mathlib.Core.Bool.{false}
 use lib.ListN.{length-set}
-use Rattle.words.specs.Logic.{clash}
+use Rattle.words.proofs.Logic.{clash}
 use Rattle.absorb.specs.MarksLaws.{marking_none, marking_next, marks_inside}
 use Rattle.absorb.proofs.region.inside.Goals as goal
 

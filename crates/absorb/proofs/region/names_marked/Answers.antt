@@ -2,7 +2,7 @@
 use native.Mathlib.Omega.{arith}
 use mathlib.Core.Path.{refl}
 use mathlib.Core.Bool.{true}
-use Rattle.words.specs.Logic.{clash}
+use Rattle.words.proofs.Logic.{clash}
 use Rattle.absorb.specs.Marks.{unmarked}
 use Rattle.absorb.specs.MarksLaws.{marked-unmarked, names_leaf, names_flips, names-binds, names-joins}
 use Rattle.absorb.proofs.region.names_marked.Goals as goal

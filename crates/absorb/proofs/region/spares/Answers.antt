@@ -2,7 +2,7 @@
 use native.Mathlib.Omega.{arith}
 use mathlib.Core.Path.{refl, sym, ◌∙◌}
 use mathlib.Core.Bool.{false}
-use Rattle.words.specs.Logic.{clash}
+use Rattle.words.proofs.Logic.{clash}
 use Rattle.absorb.specs.MarksLaws.{spares_reads, spares_gate, spares_binds}
 use Rattle.absorb.proofs.region.spares.Goals as goal
 

@@ -2,7 +2,7 @@
 use native.Mathlib.Omega.{arith}
 use mathlib.Core.Path.{refl, sym, ◌∙◌, ap}
 use mathlib.Core.Bool.{true, not}
-use Rattle.words.specs.Logic.{clash}
+use Rattle.words.proofs.Logic.{clash}
 use Rattle.net.specs.Layout.{names-below, joins-right}
 use Rattle.absorb.specs.MarksLaws.{names_leaf, names_flips, names-binds, names-joins}
 use Rattle.absorb.specs.Spread.{still}

@@ -1,7 +1,7 @@
 -- `absorb::spread::spread_at` meets its contract. Assumes nothing.
 use native.Mathlib.Omega.{arith}
 use mathlib.Core.Path.{refl, sym, ◌∙◌}
-use Rattle.words.specs.Logic.{clash}
+use Rattle.words.proofs.Logic.{clash}
 use Rattle.net.specs.Layout.{changed}
 use Rattle.absorb.specs.SpreadLaws.{room-more, noted-as-is, noted_more}
 use Rattle.absorb.proofs.spread.spread_at.Goals as goal

@@ -1,8 +1,8 @@
 -- `dimacs::atoms::mentions` meets its contract. The invariant: the answer is that of the fields which are still to be read. Assumes nothing.
 use native.Mathlib.Omega.{arith}
 use mathlib.Core.Path.{refl, sym, ◌∙◌}
-use Rattle.dimacs.specs.TokenLaws.{tokens-taken, tokens_none}
-use Rattle.dimacs.specs.RowSteps.{mentions-none, mentions-other_row, mentions-other-variable, mentions-here}
+use Rattle.dimacs.proofs.TokenLaws.{tokens-taken, tokens_none}
+use Rattle.dimacs.proofs.RowSteps.{mentions-none, mentions-other_row, mentions-other-variable, mentions-here}
 use Rattle.dimacs.proofs.atoms.mentions.Goals as goal
 use Rattle.dimacs.proofs.atoms.mentions.Goals.{then-row-kind+else-variable_of-v, else-row-kind}
 

@@ -2,8 +2,8 @@
 use native.Mathlib.Omega.{arith}
 use mathlib.Core.Bool.{not}
 use mathlib.Core.Path.{refl, sym, ap, ◌∙◌}
-use Rattle.dimacs.specs.TokenLaws.{tokens-taken, tokens_none}
-use Rattle.dimacs.specs.RowSteps.{proper-none, proper-other_row, proper-zero, proper-next, proper-fails}
+use Rattle.dimacs.proofs.TokenLaws.{tokens-taken, tokens_none}
+use Rattle.dimacs.proofs.RowSteps.{proper-none, proper-other_row, proper-zero, proper-next, proper-fails}
 use Rattle.dimacs.proofs.atoms.proper_atoms.Goals as goal
 
 pub loop-at-init : goal.loop-at-init

@@ -1,7 +1,7 @@
 -- `comments::behind_comments` meets its contract. The invariant: from here on the same is left behind the comment lines. Assumes nothing.
 use native.Mathlib.Omega.{arith}
 use mathlib.Core.Path.{refl, sym, ◌∙◌}
-use Rattle.dimacs.specs.FieldLaws.{comments_none, comments_inside, comments_start, comments_stop}
+use Rattle.dimacs.proofs.FieldLaws.{comments_none, comments_inside, comments_start, comments_stop}
 use Rattle.dimacs.proofs.comments.behind_comments.Goals as goal
 use Rattle.dimacs.proofs.comments.behind_comments.Goals.{then-inside, else-inside+else-b-ne99}
 

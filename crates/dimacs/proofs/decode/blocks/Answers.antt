@@ -1,8 +1,8 @@
 -- `dimacs::decode::blocks` meets its contract. The invariant: the stores that are left give what all stores give. Assumes nothing.
 use native.Mathlib.Omega.{arith}
 use mathlib.Core.Path.{◌∙◌}
-use Rattle.dimacs.specs.TokenLaws.{tokens-taken, tokens_none}
-use Rattle.dimacs.specs.RowSteps.{words_none, words_other_row, words_atom, words_next, storing_start, storing_same, storing_next, storing-end, storing_length}
+use Rattle.dimacs.proofs.TokenLaws.{tokens-taken, tokens_none}
+use Rattle.dimacs.proofs.RowSteps.{words_none, words_other_row, words_atom, words_next, storing_start, storing_same, storing_next, storing-end, storing_length}
 use Rattle.dimacs.proofs.decode.blocks.Goals as goal
 use Rattle.dimacs.proofs.decode.blocks.Goals.{then-row-eq-BLOCK+then-mark_of-eq1, then-row-eq-BLOCK+else-mark_of-eq1, else-row-eq-BLOCK}
 

@@ -1,8 +1,8 @@
 -- `dimacs::decode::clauses` meets its contract. The invariant: the stores that are left give what all stores give. Assumes nothing.
 use native.Mathlib.Omega.{arith}
 use mathlib.Core.Path.{◌∙◌}
-use Rattle.dimacs.specs.TokenLaws.{tokens-taken, tokens_none}
-use Rattle.dimacs.specs.RowSteps.{codes_none, codes_other_row, codes_mark, codes_next, storing_start, storing_same, storing_next, storing-end, storing_length}
+use Rattle.dimacs.proofs.TokenLaws.{tokens-taken, tokens_none}
+use Rattle.dimacs.proofs.RowSteps.{codes_none, codes_other_row, codes_mark, codes_next, storing_start, storing_same, storing_next, storing-end, storing_length}
 use Rattle.dimacs.proofs.decode.clauses.Goals as goal
 use Rattle.dimacs.proofs.decode.clauses.Goals.{then-row-eq-CLAUSE+then-mark_of-eq0, then-row-eq-CLAUSE+else-mark_of-eq0, else-row-eq-CLAUSE}
 

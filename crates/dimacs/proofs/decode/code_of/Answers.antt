@@ -6,7 +6,7 @@ use mathlib.Core.Path.{◌≡◌, refl, ap}
 use Rattle.dimacs.specs.Row.{code_of_field}
 use Rattle.dimacs.specs.declared.token.Token.{Token}
 use Rattle.dimacs.specs.declared.token.Token.TheVariants.{Line, Problem, Format, Exists, Forall, Number, Negative, Other}
-use Rattle.dimacs.specs.RowSteps.{range_bounds, code_number, code_no_number, code_negative, code_no_negative}
+use Rattle.dimacs.proofs.RowSteps.{range_bounds, code_number, code_no_number, code_negative, code_no_negative}
 use Rattle.dimacs.proofs.decode.code_of.Goals as goal
 
 -- the variants of the last arm

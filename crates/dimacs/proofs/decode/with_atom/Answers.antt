@@ -2,7 +2,7 @@
 use native.Mathlib.Omega.{arith}
 use mathlib.Core.Bool.{not}
 use mathlib.Core.Path.{ap}
-use Rattle.dimacs.specs.RowSteps.{range_bounds, atom_next, atom_none}
+use Rattle.dimacs.proofs.RowSteps.{range_bounds, atom_next, atom_none}
 use Rattle.dimacs.proofs.decode.with_atom.Goals as goal
 
 pub returns-then-not-in_range : goal.returns-then-not-in_range

@@ -1,7 +1,7 @@
 -- `dimacs::shape::run` meets its contract. The invariant: taking the fields that are left gives what taking all of them gives. Assumes nothing.
 use native.Mathlib.Omega.{arith}
 use mathlib.Core.Path.{refl, sym, ◌∙◌}
-use Rattle.dimacs.specs.ShapeSteps.{run-taken, run_none}
+use Rattle.dimacs.proofs.ShapeSteps.{run-taken, run_none}
 use Rattle.dimacs.proofs.shape.run.Goals as goal
 
 pub loop-at-init : goal.loop-at-init

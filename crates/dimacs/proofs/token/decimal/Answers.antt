@@ -3,7 +3,7 @@ use Prim.Native.Nat.{◌<◌}
 use native.Mathlib.Omega.{arith}
 use mathlib.Core.Path.{◌≡◌, sym, ◌∙◌}
 use lib.ListN.{get_or}
-use Rattle.dimacs.specs.FieldLaws.{decimal-none, decimal_leading, decimal-short, decimal-long, with_digit-most, digits-none, digits_stop, digits-go}
+use Rattle.dimacs.proofs.FieldLaws.{decimal-none, decimal_leading, decimal-short, decimal-long, with_digit-most, digits-none, digits_stop, digits-go}
 use Rattle.dimacs.proofs.token.decimal.Goals as goal
 use Rattle.dimacs.proofs.token.decimal.Goals.{then-from-to-2+else-text-from-eq48, else-from-to-2}
 

@@ -2,7 +2,7 @@
 use Prim.Native.Nat.{◌+◌}
 use lib.ListN.{get_or}
 use borrow.Author.Tests.{eq-eqb, ne_eqb}
-use Rattle.dimacs.specs.FieldLaws.{format_bytes}
+use Rattle.dimacs.proofs.FieldLaws.{format_bytes}
 use Rattle.dimacs.proofs.token.is_format.Goals as goal
 
 pub returns-then-text-from-ne99 : goal.returns-then-text-from-ne99

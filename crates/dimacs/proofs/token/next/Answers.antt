@@ -2,7 +2,7 @@
 use Prim.Native.Nat.{◌<◌}
 use native.Mathlib.Omega.{arith}
 use lib.ListN.{length}
-use Rattle.dimacs.specs.FieldLaws.{taken_none, taken-line, word_some, taken_word}
+use Rattle.dimacs.proofs.FieldLaws.{taken_none, taken-line, word_some, taken_word}
 use Rattle.dimacs.proofs.token.next.Goals as goal
 
 pub returns-then-from-text : goal.returns-then-from-text

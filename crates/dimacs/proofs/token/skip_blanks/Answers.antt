@@ -1,7 +1,7 @@
 -- `token::skip_blanks` meets its contract. The invariant: from here on the same is left behind the blanks. Assumes nothing.
 use native.Mathlib.Omega.{arith}
 use mathlib.Core.Path.{refl, sym, ◌∙◌}
-use Rattle.dimacs.specs.FieldLaws.{blanks_none, blanks_stop, blanks_go}
+use Rattle.dimacs.proofs.FieldLaws.{blanks_none, blanks_stop, blanks_go}
 use Rattle.dimacs.proofs.token.skip_blanks.Goals as goal
 
 pub loop-at-init : goal.loop-at-init

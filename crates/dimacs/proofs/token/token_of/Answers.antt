@@ -3,7 +3,7 @@ use mathlib.Core.Bool.{false}
 use mathlib.Core.Path.{◌≡◌, sym, ap, ◌∙◌}
 use lib.Seq.{slice}
 use Rattle.dimacs.specs.Token.{is_format, negative_token, number_token}
-use Rattle.dimacs.specs.FieldLaws.{format_size, format_three, says_letter, says_format, says_negative, says_number}
+use Rattle.dimacs.proofs.FieldLaws.{format_size, format_three, says_letter, says_format, says_negative, says_number}
 use Rattle.dimacs.proofs.token.token_of.Goals as goal
 use Rattle.dimacs.proofs.token.token_of.Goals.{then-to-from-eq3+else-is_format, else-to-from-eq3}
 

@@ -1,7 +1,7 @@
 -- `token::word_end` meets its contract. The invariant: the word from here on ends where the whole word does. Assumes nothing.
 use native.Mathlib.Omega.{arith}
 use mathlib.Core.Path.{sym, ◌∙◌}
-use Rattle.dimacs.specs.FieldLaws.{word_none, word_stop, word-go}
+use Rattle.dimacs.proofs.FieldLaws.{word_none, word_stop, word-go}
 use Rattle.dimacs.proofs.token.word_end.Goals as goal
 
 pub loop-at-init : goal.loop-at-init

@@ -2,7 +2,7 @@
 use mathlib.Core.Bool.{false}
 use mathlib.Core.Path.{refl}
 use borrow.Author.Tests.{eqb-true}
-use Rattle.words.specs.Logic.{clash}
+use Rattle.words.proofs.Logic.{clash}
 use Rattle.judge.proofs.cells.vacant.Goals as goal
 
 pub returns-then-cells-at-ne0 : goal.returns-then-cells-at-ne0

@@ -1,7 +1,7 @@
 -- `judge::dirty::mark_readers` meets its contract: it ends because the set of variables falls, as a word. Assumes nothing.
 use native.Mathlib.Omega.{arith}
 use mathlib.Core.Path.{refl, ◌∙◌}
-use Rattle.words.specs.Mask.{top_less}
+use Rattle.words.proofs.Mask.{top_less}
 use Rattle.judge.proofs.dirty.mark_readers.Goals as goal
 
 pub loop-left-init : goal.loop-left-init

@@ -1,7 +1,7 @@
 -- `lanes::fill::fill` meets its contract: each marked node in turn. Assumes nothing.
 use native.Mathlib.Omega.{arith}
 use mathlib.Core.Path.{refl, sym, ◌∙◌}
-use Rattle.lanes.specs.FillLaws.{filled_none, filled_next, filled_skip, filled_ripe}
+use Rattle.lanes.proofs.FillLaws.{filled_none, filled_next, filled_skip, filled_ripe}
 use Rattle.lanes.proofs.fill.fill.Goals as goal
 use Rattle.lanes.proofs.fill.fill.Goals.{then-marked, else-marked}
 

@@ -1,5 +1,5 @@
 -- `lanes::fill::flip` meets its contract. Assumes nothing.
-use Rattle.lanes.specs.LanesLaws.{flipped}
+use Rattle.lanes.proofs.LanesLaws.{flipped}
 use Rattle.lanes.proofs.fill.flip.Goals as goal
 
 pub returns : goal.returns

@@ -2,7 +2,7 @@
 use native.Mathlib.Omega.{arith}
 use mathlib.Core.Path.{sym, ◌∙◌}
 use Rattle.net.specs.Layout.{val}
-use Rattle.lanes.specs.FillLaws.{added, row_known}
+use Rattle.lanes.proofs.FillLaws.{added, row_known}
 use Rattle.lanes.proofs.fill.next.Goals as goal
 
 pub returns-then-known-ne0 : goal.returns-then-known-ne0

@@ -2,7 +2,7 @@
 use native.Mathlib.Omega.{arith}
 use mathlib.Core.Path.{refl}
 use Rattle.net.specs.Layout.{reads-low, names-below, joins-right}
-use Rattle.lanes.specs.FillLaws.{row_fixed, row_reads, row_flips, row_and, row_or, plain}
+use Rattle.lanes.proofs.FillLaws.{row_fixed, row_reads, row_flips, row_and, row_or, plain}
 use Rattle.lanes.proofs.fill.row_of.Goals as goal
 
 pub returns-then-op-lt2 : goal.returns-then-op-lt2

@@ -1,5 +1,5 @@
 -- `lanes::half::half` meets its contract. Assumes nothing.
-use Rattle.lanes.specs.PatternLaws.{half-copied}
+use Rattle.lanes.proofs.PatternLaws.{half-copied}
 use Rattle.lanes.proofs.half.half.Goals as goal
 
 pub returns : goal.returns

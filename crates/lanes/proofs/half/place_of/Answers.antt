@@ -1,6 +1,6 @@
 -- `lanes::half::place_of` meets its contract. Assumes nothing.
 use mathlib.Core.Path.{refl}
-use Rattle.lanes.specs.FillLaws.{place_is}
+use Rattle.lanes.proofs.FillLaws.{place_is}
 use Rattle.lanes.proofs.half.place_of.Goals as goal
 
 pub returns : goal.returns

@@ -1,7 +1,7 @@
 -- `lanes::half::stride` meets its contract. Assumes nothing.
 use native.Mathlib.Omega.{arith}
-use Rattle.words.specs.Mask.{one_shl}
-use Rattle.lanes.specs.PatternLaws.{stride_lt}
+use Rattle.words.proofs.Mask.{one_shl}
+use Rattle.lanes.proofs.PatternLaws.{stride_lt}
 use Rattle.lanes.proofs.half.stride.Goals as goal
 
 pub returns : goal.returns

@@ -1,8 +1,8 @@
 -- `lanes::marks::live` meets its contract: downwards, what a marked node names is marked. Assumes nothing.
 use native.Mathlib.Omega.{arith}
 use mathlib.Core.Path.{refl, sym, ◌∙◌}
-use Rattle.words.specs.Logic.{clash}
-use Rattle.lanes.specs.MarksLaws.{joined-here, closed_start, closed_next, closed_skip, closed_all}
+use Rattle.words.proofs.Logic.{clash}
+use Rattle.lanes.proofs.MarksLaws.{joined-here, closed_start, closed_next, closed_skip, closed_all}
 use Rattle.lanes.proofs.marks.live.Goals as goal
 
 pub mark-requires : goal.mark-requires

@@ -1,7 +1,7 @@
 -- `lanes::marks::mark` meets its contract. Assumes nothing.
 use Prim.Native.Nat.{◌%◌}
 use native.Mathlib.Omega.{arith}
-use Rattle.words.specs.Mask.{one_shl}
+use Rattle.words.proofs.Mask.{one_shl}
 use Rattle.lanes.specs.Marks.{joined}
 use Rattle.lanes.proofs.marks.mark.Goals as goal
 

@@ -3,9 +3,9 @@ use Prim.Native.Nat.{◌≤◌}
 use native.Mathlib.Omega.{arith}
 use mathlib.Core.Bool.{false}
 use mathlib.Core.Path.{refl, sym, ◌∙◌}
-use Rattle.words.specs.Logic.{clash}
+use Rattle.words.proofs.Logic.{clash}
 use Rattle.net.specs.Layout.{reads-low, names-below, joins-left, joins-right}
-use Rattle.lanes.specs.MarksLaws.{raised_none, founded_fixed, founded_reads, spread_flips, spread-joins}
+use Rattle.lanes.proofs.MarksLaws.{raised_none, founded_fixed, founded_reads, spread_flips, spread-joins}
 use Rattle.lanes.proofs.marks.spread.Goals as goal
 
 pub returns-then-known-ne0 : goal.returns-then-known-ne0

@@ -1,5 +1,5 @@
 -- `lanes::settle::narrow` meets its contract: the steps in turn. Assumes nothing.
-use Rattle.lanes.specs.SettleLaws.{onward-none, onward-more}
+use Rattle.lanes.proofs.SettleLaws.{onward-none, onward-more}
 use Rattle.lanes.proofs.settle.narrow.Goals as goal
 
 pub loop-at-init : goal.loop-at-init

@@ -1,7 +1,7 @@
 -- `lanes::settle::seat` meets its contract: each variable gets the next position. Assumes nothing.
 use native.Mathlib.Omega.{arith}
-use Rattle.words.specs.Mask.{top_bit, top_less, bits_sub, sub_refl, sub_trans, without_sub}
-use Rattle.lanes.specs.FillLaws.{seated_set, seated_some}
+use Rattle.words.proofs.Mask.{top_bit, top_less, bits_sub, sub_refl, sub_trans, without_sub}
+use Rattle.lanes.proofs.FillLaws.{seated_set, seated_some}
 use Rattle.lanes.proofs.settle.seat.Goals as goal
 
 pub loop-rest-init : goal.loop-rest-init

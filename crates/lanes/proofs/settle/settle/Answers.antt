@@ -1,8 +1,8 @@
 -- `lanes::settle::settle` meets its contract. Assumes nothing.
 use mathlib.Core.Bool.{false}
 use mathlib.Core.Path.{refl}
-use Rattle.words.specs.Logic.{clash}
-use Rattle.lanes.specs.SettleLaws.{narrowed_row, narrowed_none, narrowed_all}
+use Rattle.words.proofs.Logic.{clash}
+use Rattle.lanes.proofs.SettleLaws.{narrowed_row, narrowed_none, narrowed_all}
 use Rattle.lanes.proofs.settle.settle.Goals as goal
 
 pub returns-then-row-lanes-gt0 : goal.returns-then-row-lanes-gt0

@@ -2,8 +2,8 @@
 use native.Mathlib.Omega.{arith}
 use mathlib.Core.Bool.{false}
 use mathlib.Core.Path.{refl}
-use Rattle.words.specs.Logic.{clash}
-use Rattle.lanes.specs.FillLaws.{seated_none, row_at}
+use Rattle.words.proofs.Logic.{clash}
+use Rattle.lanes.proofs.FillLaws.{seated_none, row_at}
 use Rattle.lanes.proofs.settle.solve_marked.Goals as goal
 
 pub live-reach-requires : goal.live-reach-requires

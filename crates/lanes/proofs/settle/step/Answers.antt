@@ -1,6 +1,6 @@
 -- `lanes::settle::step` meets its contract. Assumes nothing.
-use Rattle.words.specs.Mask.{top_less}
-use Rattle.lanes.specs.SettleLaws.{onward_idle, onward-same, onward-low, onward-high}
+use Rattle.words.proofs.Mask.{top_less}
+use Rattle.lanes.proofs.SettleLaws.{onward_idle, onward-same, onward-low, onward-high}
 use Rattle.lanes.proofs.settle.step.Goals as goal
 
 pub returns-then-p-ge6 : goal.returns-then-p-ge6

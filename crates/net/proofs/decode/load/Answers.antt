@@ -3,7 +3,8 @@ use mathlib.Core.Path.{sym}
 use lib.ListN.{length}
 use borrow.Author.Tests.{lt-ltb}
 use Rattle.form.specs.Form.{form_of}
-use Rattle.sheet.specs.Fields.{sheet_of, frames-of}
+use Rattle.sheet.specs.Fields.{sheet_of}
+use Rattle.sheet.proofs.FieldsLaws.{frames-of}
 use Rattle.net.specs.LoadLaws.{loading_none, loaded_net}
 use Rattle.net.proofs.decode.load.Goals as goal
 

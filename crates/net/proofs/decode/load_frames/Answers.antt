@@ -4,7 +4,8 @@ use Rattle.std.specs.Prelude.{ltb}
 use borrow.Author.Tests.{ltb-true}
 use Rattle.form.specs.Form.{form_of}
 use Rattle.sheet.specs.Fields.{Sheet, sheet_of, frames}
-use Rattle.sheet.specs.Reader.{read_by, after, following_in}
+use Rattle.sheet.specs.Reader.{read_by, after}
+use Rattle.sheet.proofs.ReaderLaws.{following_in}
 use Rattle.sheet.specs.declared.reader.Reader.{Reader}
 use Rattle.net.specs.Load.{Loading}
 use Rattle.net.proofs.decode.load_frames.Goals as goal

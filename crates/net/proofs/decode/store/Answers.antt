@@ -3,7 +3,7 @@ use Prim.Native.Nat.{ℕ, ◌+◌}
 use mathlib.Core.Path.{refl, ap}
 use lib.Dec.{ltb}
 use lib.ListN.{length}
-use Rattle.sheet.specs.Fields.{frames-of}
+use Rattle.sheet.proofs.FieldsLaws.{frames-of}
 use Rattle.net.specs.LoadLaws.{loading_fit, loading_next}
 use Rattle.net.proofs.decode.store.Goals as goal
 

@@ -1,7 +1,7 @@
 -- `normal::bytes::put_narrow` meets its contract.
 use native.Mathlib.Omega.{arith}
 use lib.ListN.{length-set}
-use Rattle.words.specs.Stores.{four_sets}
+use Rattle.words.proofs.Stores.{four_sets}
 use borrow.Author.Rules.{rules}
 use Rattle.normal.proofs.bytes.put_narrow.Goals as goal
 

@@ -1,7 +1,7 @@
 -- `normal::bytes::put_wide` meets its contract.
 use native.Mathlib.Omega.{arith}
 use lib.ListN.{length-set}
-use Rattle.words.specs.Stores.{seven_sets}
+use Rattle.words.proofs.Stores.{seven_sets}
 use borrow.Author.Rules.{rules}
 use Rattle.normal.proofs.bytes.put_wide.Goals as goal
 

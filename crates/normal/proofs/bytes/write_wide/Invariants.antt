@@ -6,7 +6,7 @@ use lib.ListN.{length}
 use lib.Seq.{sets}
 use Rattle.form.specs.declared.Form.TheVariants.{Wide}
 use Rattle.normal.specs.WordBytes.{words_bytes}
-use Rattle.normal.specs.BytesLaws.{words_none, words_next, words_all}
+use Rattle.normal.proofs.BytesLaws.{words_none, words_next, words_all}
 use Rattle.normal.proofs.bytes.write_wide.Given as goal
 
 abbrev pub invariant-loop-k : goal.invariant-loop-k

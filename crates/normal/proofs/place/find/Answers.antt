@@ -2,7 +2,7 @@
 use Prim.Native.Nat.{◌≤◌, ◌-◌}
 use native.Mathlib.Omega.{arith}
 use Rattle.normal.specs.Visit.{Found}
-use Rattle.normal.specs.CodeLaws.{seek_start, seek_next, seek_here, seek-end}
+use Rattle.normal.proofs.CodeLaws.{seek_start, seek_next, seek_here, seek-end}
 use Rattle.normal.proofs.place.find.Goals as goal
 
 pub loop-i-init : goal.loop-i-init

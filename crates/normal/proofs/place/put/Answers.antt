@@ -1,5 +1,5 @@
 -- `normal::place::put` meets its contract.
-use Rattle.normal.specs.CodeLaws.{puts_old, puts_new}
+use Rattle.normal.proofs.CodeLaws.{puts_old, puts_new}
 use borrow.Author.Rules.{rules}
 use Rattle.normal.proofs.place.put.Goals as goal
 

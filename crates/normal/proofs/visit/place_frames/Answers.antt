@@ -8,9 +8,10 @@
 -- src/visit.rt:167:1
 -- src/visit.rt:167:1
 -- src/visit.rt:167:1
-use Rattle.normal.specs.VisitLaws.{begins}
-use Rattle.sheet.specs.Fields.{frames-of}
-use Rattle.form.specs.Form.{form_of, most-place}
+use Rattle.normal.proofs.VisitLaws.{begins}
+use Rattle.sheet.proofs.FieldsLaws.{frames-of}
+use Rattle.form.specs.Form.{form_of}
+use Rattle.form.proofs.FormLaws.{most-place}
 use native.Mathlib.Omega.{arith}
 use borrow.Author.Rules.{rules}
 use Rattle.normal.proofs.visit.place_frames.Reads as reads

@@ -15,7 +15,7 @@
 -- src/visit.rt:115:1
 -- src/visit.rt:115:1
 use native.Mathlib.Omega.{arith}
-use Rattle.normal.specs.VisitLaws.{stack-fits, turn_inside, turn-fit, next-room, turn_push, turn-room, turn-number, turn-put}
+use Rattle.normal.proofs.VisitLaws.{stack-fits, turn_inside, turn-fit, next-room, turn_push, turn-room, turn-number, turn-put}
 use borrow.Author.Rules.{rules}
 use Rattle.normal.proofs.visit.turn.Reads as reads
 use Rattle.normal.proofs.visit.turn.Lts as lts

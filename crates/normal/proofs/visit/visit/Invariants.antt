@@ -6,7 +6,7 @@
 -- src/visit.rt:119:1
 -- src/visit.rt:119:1
 -- src/visit.rt:119:1
-use Rattle.normal.specs.VisitLaws.{visited}
+use Rattle.normal.proofs.VisitLaws.{visited}
 use Rattle.normal.specs.Visit.{left, Visiting}
 use Rattle.sheet.specs.Fields.{sheet_of}
 use Rattle.sheet.specs.Fields as Sheets

@@ -1,7 +1,7 @@
 -- `prenex::block::write` meets its contract. The invariant: what stands are the quantifiers of the blocks from `left` on. Assumes nothing.
 use native.Mathlib.Omega.{arith}
 use mathlib.Core.Path.{refl, ◌∙◌}
-use Rattle.prenex.specs.BlockLaws.{blocks_start, blocks_more, blocks_end, blocks-length}
+use Rattle.prenex.proofs.BlockLaws.{blocks_start, blocks_more, blocks_end, blocks-length}
 use Rattle.prenex.proofs.block.write.Goals as goal
 
 pub loop-left-init : goal.loop-left-init

@@ -1,5 +1,5 @@
 -- `prenex::block::write` meets its contract. The invariant: what stands are the quantifiers of the blocks from `left` on. Assumes nothing.
-use Rattle.prenex.specs.BlockLaws.{Blocks}
+use Rattle.prenex.proofs.BlockLaws.{Blocks}
 use Rattle.prenex.proofs.block.write.Given as goal
 
 abbrev pub invariant-loop-left : goal.invariant-loop-left

@@ -1,5 +1,5 @@
 -- `prenex::block::write_run` meets its contract. Assumes nothing.
-use Rattle.prenex.specs.BlockLaws.{run_none, run-one}
+use Rattle.prenex.proofs.BlockLaws.{run_none, run-one}
 use Rattle.prenex.proofs.block.write_run.Goals as goal
 
 pub returns-then-c-eq0 : goal.returns-then-c-eq0

@@ -2,7 +2,7 @@
 use native.Mathlib.Omega.{arith}
 use mathlib.Core.Path.{sym, ◌∙◌}
 use Rattle.words.specs.Word.{bit}
-use Rattle.prenex.specs.BlockLaws.{runs-start, runs_has, runs_lacks, runs-end}
+use Rattle.prenex.proofs.BlockLaws.{runs-start, runs_has, runs_lacks, runs-end}
 use Rattle.prenex.proofs.block.write_runs.Goals as goal
 use Rattle.prenex.proofs.block.write_runs.Goals.{then-has, else-has}
 

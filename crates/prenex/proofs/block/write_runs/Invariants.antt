@@ -1,7 +1,7 @@
 -- `prenex::block::write_runs` meets its contract. The invariant: the stores that are left give what all stores give. Assumes nothing.
 use Prim.Native.Nat.{◌-◌, ◌≤◌}
 use Rattle.words.specs.Word.{bit}
-use Rattle.prenex.specs.BlockLaws.{Runs}
+use Rattle.prenex.proofs.BlockLaws.{Runs}
 use Rattle.prenex.proofs.block.write_runs.Given as goal
 
 abbrev pub invariant-loop-x : goal.invariant-loop-x

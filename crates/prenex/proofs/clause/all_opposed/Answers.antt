@@ -3,8 +3,8 @@ use Prim.Native.Nat.{ℕ, ◌^◌}
 use native.Mathlib.Omega.{arith}
 use mathlib.Core.Path.{sym, ap, ◌∙◌}
 use Rattle.prenex.specs.Code.{clauses_of}
-use Rattle.prenex.specs.LiteralLaws.{variable-below}
-use Rattle.prenex.specs.OpposedLaws.{all_with, codes_over, not-opposed, is-opposed, sees_negative, sees_positive}
+use Rattle.prenex.proofs.LiteralLaws.{variable-below}
+use Rattle.prenex.proofs.OpposedLaws.{all_with, codes_over, not-opposed, is-opposed, sees_negative, sees_positive}
 use Rattle.prenex.proofs.clause.all_opposed.Goals as goal
 use Rattle.prenex.proofs.clause.all_opposed.Goals.{then-code-eq0+else-positive-negative-eq0, else-code-eq0+then-negative, else-code-eq0+else-negative}
 

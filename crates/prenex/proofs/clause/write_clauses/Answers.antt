@@ -1,6 +1,6 @@
 -- `prenex::clause::write_clauses` meets its contract. The invariant: the stores that are left give what all stores give. Assumes nothing.
 use native.Mathlib.Omega.{arith}
-use Rattle.prenex.specs.ClauseLaws.{going_start, going_none, going_end, going_literal, going_done, frames-short}
+use Rattle.prenex.proofs.ClauseLaws.{going_start, going_none, going_end, going_literal, going_done, frames-short}
 use Rattle.prenex.proofs.clause.write_clauses.Goals as goal
 use Rattle.prenex.proofs.clause.write_clauses.Goals.{then-code-eq0+then-not-first, then-code-eq0+else-not-first, else-code-eq0}
 

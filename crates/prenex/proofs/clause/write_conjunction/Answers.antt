@@ -4,7 +4,7 @@ use native.Mathlib.Omega.{arith}
 use mathlib.Core.Path.{sym, ◌∙◌}
 use lib.ListN.{length, take}
 use lib.Seq.{get_or-take, length-take-le}
-use Rattle.prenex.specs.ClauseLaws.{joining_start, joining_first, joining_next, joining_done}
+use Rattle.prenex.proofs.ClauseLaws.{joining_start, joining_first, joining_next, joining_done}
 use Rattle.prenex.proofs.clause.write_conjunction.Goals as goal
 use Rattle.prenex.proofs.clause.write_conjunction.Goals.{then-first, else-first}
 

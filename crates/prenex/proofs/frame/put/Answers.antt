@@ -2,7 +2,7 @@
 use native.Mathlib.Omega.{arith}
 use mathlib.Core.List.{[], ◌∷◌}
 use mathlib.Core.Path.{sym}
-use Rattle.prenex.specs.StoreLaws.{sets_out}
+use Rattle.prenex.proofs.StoreLaws.{sets_out}
 use Rattle.prenex.proofs.frame.put.Goals as goal
 
 pub overflow_cast-a : goal.overflow_cast-a

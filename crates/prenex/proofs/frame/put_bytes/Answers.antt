@@ -1,7 +1,7 @@
 -- `prenex::frame::put_bytes` meets its contract. Assumes nothing.
 use native.Mathlib.Omega.{arith}
 use lib.ListN.{length-set}
-use Rattle.words.specs.Stores.{four_sets}
+use Rattle.words.proofs.Stores.{four_sets}
 use Rattle.prenex.proofs.frame.put_bytes.Goals as goal
 
 pub bounds-out-at-2 : goal.bounds-out-at-2

@@ -2,7 +2,7 @@
 use Prim.Native.Nat.{◌+◌}
 use native.Mathlib.Omega.{arith}
 use mathlib.Core.Path.{refl}
-use Rattle.prenex.specs.LiteralLaws.{found-start, found-end, found-same, found_clause, found-literal}
+use Rattle.prenex.proofs.LiteralLaws.{found-start, found-end, found-same, found_clause, found-literal}
 use Rattle.prenex.proofs.literal.find_occurring.Goals as goal
 use Rattle.prenex.proofs.literal.find_occurring.Goals.{then-code-ne0, else-code-ne0}
 

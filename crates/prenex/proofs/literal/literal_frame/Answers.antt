@@ -3,8 +3,8 @@ use native.Mathlib.Omega.{arith}
 use mathlib.Core.Path.{sym, ◌∙◌}
 use Rattle.words.specs.Word.{bit}
 use Rattle.prenex.specs.Code.{literal_of}
-use Rattle.prenex.specs.LiteralLaws.{variable-below}
-use Rattle.prenex.specs.ClauseLaws.{frame_negative, frame-positive}
+use Rattle.prenex.proofs.LiteralLaws.{variable-below}
+use Rattle.prenex.proofs.ClauseLaws.{frame_negative, frame-positive}
 use Rattle.prenex.proofs.literal.literal_frame.Goals as goal
 
 pub rank-requires-then-negative : goal.rank-requires-then-negative

@@ -1,6 +1,6 @@
 -- `prenex::literal::negative` meets its contract. Assumes nothing.
 use mathlib.Core.Path.{sym}
-use Rattle.prenex.specs.LiteralLaws.{negative-is}
+use Rattle.prenex.proofs.LiteralLaws.{negative-is}
 use Rattle.prenex.proofs.literal.negative.Goals as goal
 
 pub returns : goal.returns

@@ -5,7 +5,7 @@ use native.Mathlib.Numerals.{unary_clauses}
 use native.Mathlib.Nat.{zero-add}
 use mathlib.Core.Path.{◌≡◌, sym, ◌∙◌}
 use Rattle.words.specs.Word.{bit}
-use Rattle.prenex.specs.LiteralLaws.{count_none, count_has, count_lacks}
+use Rattle.prenex.proofs.LiteralLaws.{count_none, count_has, count_lacks}
 use Rattle.prenex.proofs.literal.rank.Goals as goal
 use Rattle.prenex.proofs.literal.rank.Goals.{then-has, else-has}
 

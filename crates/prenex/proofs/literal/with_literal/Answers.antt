@@ -1,7 +1,7 @@
 -- `prenex::literal::with_literal` meets its contract. Assumes nothing.
 use Prim.Native.Nat.{ℕ, ◌^◌}
 use mathlib.Core.Path.{sym, ap, ◌∙◌}
-use Rattle.prenex.specs.LiteralLaws.{variable-below, with_negative, with_positive}
+use Rattle.prenex.proofs.LiteralLaws.{variable-below, with_negative, with_positive}
 use Rattle.prenex.proofs.literal.with_literal.Goals as goal
 
 pub one-one-requires : goal.one-one-requires

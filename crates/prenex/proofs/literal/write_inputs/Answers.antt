@@ -3,8 +3,8 @@ use native.Mathlib.Omega.{arith}
 use mathlib.Core.Path.{sym, ◌∙◌}
 use Rattle.words.specs.Word.{bit}
 use Rattle.sheet.specs.declared.Kind.TheVariants.{Input}
-use Rattle.prenex.specs.StoreLaws.{input-bytes}
-use Rattle.prenex.specs.LiteralLaws.{stored-start, stored_has, stored_lacks, stored-end}
+use Rattle.prenex.proofs.StoreLaws.{input-bytes}
+use Rattle.prenex.proofs.LiteralLaws.{stored-start, stored_has, stored_lacks, stored-end}
 use Rattle.prenex.proofs.literal.write_inputs.Goals as goal
 use Rattle.prenex.proofs.literal.write_inputs.Goals.{then-has, else-has}
 

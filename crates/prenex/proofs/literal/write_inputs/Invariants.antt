@@ -2,7 +2,7 @@
 use Prim.Native.Nat.{◌-◌, ◌≤◌}
 use Rattle.words.specs.Word.{bit}
 use Rattle.sheet.specs.declared.Kind.TheVariants.{Input}
-use Rattle.prenex.specs.LiteralLaws.{Stored}
+use Rattle.prenex.proofs.LiteralLaws.{Stored}
 use Rattle.prenex.proofs.literal.write_inputs.Given as goal
 
 abbrev pub invariant-loop-x : goal.invariant-loop-x

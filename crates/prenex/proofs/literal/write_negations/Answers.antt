@@ -2,8 +2,8 @@
 use native.Mathlib.Omega.{arith}
 use mathlib.Core.Path.{sym, ◌∙◌}
 use Rattle.words.specs.Word.{bit}
-use Rattle.prenex.specs.StoreLaws.{not-bytes}
-use Rattle.prenex.specs.LiteralLaws.{stored-start, stored_has, stored_lacks, stored-end}
+use Rattle.prenex.proofs.StoreLaws.{not-bytes}
+use Rattle.prenex.proofs.LiteralLaws.{stored-start, stored_has, stored_lacks, stored-end}
 use Rattle.prenex.proofs.literal.write_negations.Goals as goal
 use Rattle.prenex.proofs.literal.write_negations.Invariants.{negation}
 use Rattle.prenex.proofs.literal.write_negations.Goals.{then-has, else-has}

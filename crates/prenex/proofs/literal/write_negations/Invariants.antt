@@ -4,7 +4,7 @@ use Rattle.words.specs.Word.{bit}
 use Rattle.sheet.specs.declared.Kind.{Kind}
 use Rattle.sheet.specs.declared.Kind.TheVariants.{Not}
 use Rattle.prenex.specs.Kinds.{count}
-use Rattle.prenex.specs.LiteralLaws.{Stored}
+use Rattle.prenex.proofs.LiteralLaws.{Stored}
 use Rattle.prenex.proofs.literal.write_negations.Given as goal
 
 -- the negation of x, where the inputs are those of a word

@@ -6,7 +6,7 @@ use mathlib.Core.Path.{refl, sym}
 use lib.ListN.{length}
 use lib.Seq.{length-take-le}
 use Rattle.prenex.specs.Kinds.{kinds}
-use Rattle.qdimacs.specs.BuildLaws.{first-length, both-length, builds_large, codes_fit, some-frame, count-is, matrix-here, builds_small}
+use Rattle.qdimacs.proofs.BuildLaws.{first-length, both-length, builds_large, codes_fit, some-frame, count-is, matrix-here, builds_small}
 use Rattle.qdimacs.proofs.build.assemble.Goals as goal
 
 pub write_matrix-matrix-requires : goal.write_matrix-matrix-requires

@@ -5,7 +5,7 @@ use mathlib.Core.Path.{ap, ◌∙◌}
 use lib.ListN.{length, drop}
 use Rattle.dimacs.specs.Token.{tokens}
 use Rattle.dimacs.specs.Row.{header, codes_from, words_from}
-use Rattle.qdimacs.specs.BuildLaws.{builds_large, many_codes, many_words, codes_here, words_here, stored-length, arranged_here}
+use Rattle.qdimacs.proofs.BuildLaws.{builds_large, many_codes, many_words, codes_here, words_here, stored-length, arranged_here}
 use Rattle.qdimacs.proofs.build.build.Goals as goal
 
 pub returns-then-n-gt-MOST_CODES : goal.returns-then-n-gt-MOST_CODES

@@ -3,7 +3,7 @@ use native.Mathlib.Omega.{arith}
 use borrow.Author.Rules.{rules}
 use mathlib.Core.Path.{refl, sym, ◌∙◌}
 use Rattle.sheet.specs.Fields.{narrow}
-use Rattle.qdimacs.specs.MatrixAsked.{judged-true, matrix_checked, matrix-ungauged, ready_none, judged-asked}
+use Rattle.qdimacs.proofs.MatrixAsked.{judged-true, matrix_checked, matrix-ungauged, ready_none, judged-asked}
 use Rattle.qdimacs.proofs.build.contingent.Goals as goal
 
 pub returns-then-all_opposed : goal.returns-then-all_opposed

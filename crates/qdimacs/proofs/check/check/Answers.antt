@@ -4,7 +4,7 @@ use borrow.Author.Tests.{not-true, not-false}
 use mathlib.Core.Path.{refl, sym, ap, ◌∙◌}
 use Rattle.dimacs.specs.Shape.{whole}
 use Rattle.dimacs.specs.declared.shape.State.{State}
-use Rattle.qdimacs.specs.CheckLaws.{shape_broken, atoms-broken, text_well}
+use Rattle.qdimacs.proofs.CheckLaws.{shape_broken, atoms-broken, text_well}
 use Rattle.qdimacs.proofs.check.check.Goals as goal
 
 pub run-state-requires : goal.run-state-requires

@@ -1,7 +1,7 @@
 -- `records::layout::store3` meets its contract: three stores in a row. Assumes nothing.
 use native.Mathlib.Omega.{arith}
 use lib.ListN.{length-set}
-use Rattle.words.specs.Stores.{three_sets}
+use Rattle.words.proofs.Stores.{three_sets}
 use borrow.Author.Rules.{rules}
 use Rattle.records.proofs.layout.store3.Goals as goal
 

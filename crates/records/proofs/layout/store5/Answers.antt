@@ -1,7 +1,7 @@
 -- `records::layout::store5` meets its contract: two stores behind three. Assumes nothing.
 use native.Mathlib.Omega.{arith}
 use lib.ListN.{length-set}
-use Rattle.words.specs.Stores.{five_sets}
+use Rattle.words.proofs.Stores.{five_sets}
 use borrow.Author.Rules.{rules}
 use Rattle.records.proofs.layout.store5.Goals as goal
 

@@ -2,8 +2,8 @@
 use Prim.Native.Nat.{◌+◌, ◌-◌, ◌*◌}
 use native.Mathlib.Omega.{arith}
 use Rattle.form.specs.declared.Form.TheVariants.{Wide}
-use Rattle.records.specs.Layout.{part_record}
-use Rattle.records.specs.Locate.{part-place}
+use Rattle.records.proofs.LayoutLaws.{part_record}
+use Rattle.records.proofs.LocateLaws.{part-place}
 use borrow.Author.Rules.{rules}
 use Rattle.records.proofs.layout.wide_part.Goals as goal
 

@@ -1,7 +1,7 @@
 -- `run::answer::put2` meets its contract.
 use native.Mathlib.Omega.{arith}
 use lib.ListN.{length-set}
-use Rattle.words.specs.Stores.{two_sets}
+use Rattle.words.proofs.Stores.{two_sets}
 use Rattle.run.proofs.answer.put2.Goals as goal
 
 pub bounds-answers-at-2 : goal.bounds-answers-at-2

@@ -1,7 +1,7 @@
 -- `run::answer::put4` meets its contract.
 use native.Mathlib.Omega.{arith}
 use lib.ListN.{length-set}
-use Rattle.words.specs.Stores.{four_sets}
+use Rattle.words.proofs.Stores.{four_sets}
 use Rattle.words.specs.Bytes.{bytes_of}
 use Rattle.run.proofs.answer.put4.Goals as goal
 

@@ -1,5 +1,5 @@
 -- `run::answer::write_narrow` meets its contract.
-use Rattle.certificate.specs.Written.{narrow-written}
+use Rattle.certificate.proofs.Written.{narrow-written}
 use Rattle.run.proofs.answer.write_narrow.Goals as goal
 
 pub returns : goal.returns

@@ -1,6 +1,6 @@
 -- `run::answer::write_wide` meets its contract.
 use mathlib.Core.Path.{refl}
-use Rattle.certificate.specs.Written.{wide-written}
+use Rattle.certificate.proofs.Written.{wide-written}
 use Rattle.run.proofs.answer.write_wide.Goals as goal
 
 pub returns : goal.returns

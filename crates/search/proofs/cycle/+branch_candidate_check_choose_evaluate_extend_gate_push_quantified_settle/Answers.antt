@@ -1,11 +1,11 @@
 -- The cycle of the search meets its contracts: each call is on a smaller node, or on the same node with fewer variables loose or a step further down.
 -- Assumes nothing.
 use Rattle.std.proofs.Common.{refl, sym, ◌∙◌, arith}
-use Rattle.words.specs.Mask.{top_bit, top_less}
+use Rattle.words.proofs.Mask.{top_bit, top_less}
 use Rattle.net.specs.Layout.{decides-some, reads-low, flips_below, joins-left, joins-right, binds-below}
 use Rattle.judge.specs.JudgeLaws.{judged-at, judging_none, judging_then}
 use Rattle.judge.specs.CellLaws.{trail_none}
-use Rattle.proxies.specs.Growing.{growing_same, growing_then}
+use Rattle.proxies.proofs.Growing.{growing_same, growing_then}
 use Rattle.proxies.specs.KeptLaws.{recorded_told}
 use Rattle.search.specs.SearchLaws.{checked_flip, checked_left, checked_right, lent-after, body_less}
 use Rattle.search.specs.SearchLaws.{told_met, told_missed, told_leaf, told_flip, told-left, told-right, told-both, told-shown}

@@ -1,7 +1,7 @@
 -- `session::causes::line_cause` meets its contract.
 use mathlib.Core.Path.{sym, ◌∙◌}
-use Rattle.session.specs.Sound.{length-standing}
-use Rattle.model.specs.Causes.{refusal-unknown, refusal_enter, refusal-take_back, refusal_read, refusal_search}
+use Rattle.session.proofs.Sound.{length-standing}
+use Rattle.model.proofs.Causes.{refusal-unknown, refusal_enter, refusal-take_back, refusal_read, refusal_search}
 use Rattle.session.proofs.causes.line_cause.Goals as goal
 
 pub returns-then-unknown : goal.returns-then-unknown

@@ -4,7 +4,7 @@ use native.Mathlib.Numerals.{add-one}
 use mathlib.Core.Path.{refl}
 use lib.ListN.{length-set}
 use lib.Seq.{take-suc-set}
-use Rattle.session.specs.StepLaws.{words_put}
+use Rattle.session.proofs.StepLaws.{words_put}
 use Rattle.session.proofs.entries.append.Goals as goal
 
 pub returns : goal.returns

@@ -3,7 +3,7 @@ use Prim.Native.Nat.{◌-◌}
 use native.Mathlib.Omega.{arith}
 use mathlib.Core.Path.{refl, sym}
 use lib.Seq.{take-take}
-use Rattle.session.specs.StepLaws.{words_struck}
+use Rattle.session.proofs.StepLaws.{words_struck}
 use Rattle.session.proofs.entries.remove_last.Goals as goal
 
 pub returns : goal.returns

@@ -1,6 +1,6 @@
 -- `session::line::ask` meets its contract.
-use Rattle.session.specs.Sound.{net_ready}
-use Rattle.session.specs.StepLaws.{searched}
+use Rattle.session.proofs.Sound.{net_ready}
+use Rattle.session.proofs.StepLaws.{searched}
 use Rattle.session.proofs.line.ask.Goals as goal
 
 pub ask-asked-requires : goal.ask-asked-requires

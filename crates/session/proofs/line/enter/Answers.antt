@@ -1,6 +1,6 @@
 -- `session::line::enter` meets its contract.
 use mathlib.Core.Path.{refl}
-use Rattle.session.specs.Sound.{length-standing}
+use Rattle.session.proofs.Sound.{length-standing}
 use Rattle.session.proofs.line.enter.Goals as goal
 
 pub returns : goal.returns

@@ -1,7 +1,7 @@
 -- `session::line::step` meets its contract.
 use mathlib.Core.Path.{refl}
-use Rattle.session.specs.Sound.{sound_shaped, sound_opens}
-use Rattle.session.specs.StepLaws.{refused-step, enter_room, enter_fresh, enter_step, take_back_some, take_back_step, read_there, read_step, ask-step, why-step}
+use Rattle.session.proofs.Sound.{sound_shaped, sound_opens}
+use Rattle.session.proofs.StepLaws.{refused-step, enter_room, enter_fresh, enter_step, take_back_some, take_back_step, read_there, read_step, ask-step, why-step}
 use Rattle.session.proofs.line.step.Goals as goal
 
 pub line_cause-number-requires : goal.line_cause-number-requires

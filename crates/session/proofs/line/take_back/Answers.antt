@@ -1,5 +1,5 @@
 -- `session::line::take_back` meets its contract.
-use Rattle.session.specs.Sound.{length-standing}
+use Rattle.session.proofs.Sound.{length-standing}
 use Rattle.session.proofs.line.take_back.Goals as goal
 
 pub returns : goal.returns

@@ -1,6 +1,6 @@
 -- `session::line::why` meets its contract.
-use Rattle.session.specs.Sound.{net_ready}
-use Rattle.session.specs.StepLaws.{searched}
+use Rattle.session.proofs.Sound.{net_ready}
+use Rattle.session.proofs.StepLaws.{searched}
 use Rattle.session.proofs.line.why.Goals as goal
 
 pub why-found-requires : goal.why-found-requires

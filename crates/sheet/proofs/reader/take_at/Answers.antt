@@ -1,7 +1,7 @@
 -- `sheet::reader::take_at` meets its contract: below the count of frames it moves on by one, else it stays.
 use mathlib.Core.Path.{sym}
 use native.Mathlib.Omega.{arith}
-use Rattle.sheet.specs.Reader.{takes_of, following_in, following-past}
+use Rattle.sheet.proofs.ReaderLaws.{takes_of, following_in, following-past}
 use Rattle.sheet.proofs.reader.take_at.Goals as goal
 
 pub returns-then-number-frames : goal.returns-then-number-frames

@@ -1,6 +1,6 @@
 -- `sheet::rules::binds_again` meets its contract: by words.
 use mathlib.Core.Path.{sym}
-use Rattle.sheet.specs.Check.{meet-bound}
+use Rattle.sheet.proofs.CheckLaws.{meet-bound}
 use Rattle.sheet.proofs.rules.binds_again.Goals as goal
 
 pub returns : goal.returns

@@ -1,7 +1,7 @@
 -- `sheet::rules::binds_gauge` meets its contract: each way by words.
 use borrow.Author.Tests.{ne_eqb}
 use Rattle.sheet.specs.Rules.{binds_gauge}
-use Rattle.sheet.specs.Check.{meet-bound, binds_second}
+use Rattle.sheet.proofs.CheckLaws.{meet-bound, binds_second}
 use Rattle.sheet.proofs.rules.binds_gauge.Goals as goal
 
 pub returns-then-bound_word-seen-ne0 : goal.returns-then-bound_word-seen-ne0

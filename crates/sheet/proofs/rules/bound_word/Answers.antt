@@ -3,8 +3,8 @@ use native.Mathlib.Omega.{arith}
 use mathlib.Core.Path.{ap, sym, ◌∙◌}
 use Rattle.sheet.specs.Rules.{bad_variables}
 use Rattle.sheet.specs.Check.{bound_mask}
-use Rattle.form.specs.Form.{few-variables}
-use Rattle.sheet.specs.RuleLaws.{range-fits}
+use Rattle.form.proofs.FormLaws.{few-variables}
+use Rattle.sheet.proofs.RuleLaws.{range-fits}
 use Rattle.sheet.proofs.rules.bound_word.Goals as goal
 
 pub range_word-requires : goal.range_word-requires

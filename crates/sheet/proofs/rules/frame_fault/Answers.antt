@@ -4,7 +4,7 @@ use native.Mathlib.Omega.{arith}
 use borrow.Author.Tests.{lt-ltb, le-ltb}
 use Rattle.sheet.specs.Cause.{first}
 use Rattle.sheet.specs.Rules.{field_causes}
-use Rattle.sheet.specs.Check.{first-variables}
+use Rattle.sheet.proofs.CheckLaws.{first-variables}
 use Rattle.sheet.proofs.rules.frame_fault.Goals as goal
 
 pub returns-then-f-gt7 : goal.returns-then-f-gt7

@@ -1,7 +1,7 @@
 -- `sheet::rules::named_both` meets its contract: each way by words.
 use borrow.Author.Tests.{ne_eqb}
 use Rattle.sheet.specs.Rules.{named_both}
-use Rattle.sheet.specs.Check.{meet-input, named_second}
+use Rattle.sheet.proofs.CheckLaws.{meet-input, named_second}
 use Rattle.sheet.proofs.rules.named_both.Goals as goal
 
 pub returns-then-named_input-seen-ne0 : goal.returns-then-named_input-seen-ne0

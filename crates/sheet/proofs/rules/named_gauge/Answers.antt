@@ -3,7 +3,7 @@ use mathlib.Core.Path.{ap, sym, ◌∙◌}
 use Rattle.words.specs.Logic.{tests}
 use Rattle.sheet.specs.Rules.{bad_variables}
 use Rattle.sheet.specs.Check.{gauge_mask}
-use Rattle.form.specs.Form.{few-variables}
+use Rattle.form.proofs.FormLaws.{few-variables}
 use Rattle.sheet.proofs.rules.named_gauge.Goals as goal
 
 pub input_word-requires : goal.input_word-requires

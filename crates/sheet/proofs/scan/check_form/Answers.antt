@@ -1,7 +1,7 @@
 -- `sheet::scan::check_form` meets its contract: the size first, then the frames.
 use Rattle.sheet.specs.Fields.{sheet_of}
-use Rattle.sheet.specs.Check.{same_checks}
-use Rattle.sheet.specs.Pass.{size_none, size_checks, frames_check}
+use Rattle.sheet.proofs.CheckLaws.{same_checks}
+use Rattle.sheet.proofs.PassLaws.{size_none, size_checks, frames_check}
 use Rattle.sheet.proofs.scan.check_form.Goals as goal
 
 pub returns-then-number-ne0 : goal.returns-then-number-ne0

@@ -3,7 +3,7 @@ use mathlib.Core.Path.{◌∙◌}
 use borrow.Author.Tests.{eq-eqb, ne_eqb}
 use native.Mathlib.Nat.{lt_of_le_of_lt}
 use lib.Bits.{and_le_r}
-use Rattle.sheet.specs.Check.{meet-bits}
+use Rattle.sheet.proofs.CheckLaws.{meet-bits}
 use Rattle.sheet.proofs.scan.root_answer.Goals as goal
 
 pub returns-then-seen-word-ne0 : goal.returns-then-seen-word-ne0

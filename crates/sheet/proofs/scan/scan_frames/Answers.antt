@@ -2,7 +2,8 @@
 use Rattle.std.proofs.Common.{◌≡◌, ℕ, ◌+◌, ◌-◌, ◌<◌, ◌∙◌, Bool, List, sym, ap, subst, arith}
 use Rattle.form.specs.Form.{form_of}
 use Rattle.sheet.specs.Fields.{Sheet, sheet_of, frames}
-use Rattle.sheet.specs.Reader.{read_by, after, following_in}
+use Rattle.sheet.specs.Reader.{read_by, after}
+use Rattle.sheet.proofs.ReaderLaws.{following_in}
 use Rattle.sheet.specs.Pass.{Scanning}
 use Rattle.sheet.specs.declared.reader.Reader.{Reader}
 use Rattle.sheet.specs.declared.scan.Scan.{Scan}

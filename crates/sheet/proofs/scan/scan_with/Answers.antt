@@ -1,11 +1,13 @@
 -- `sheet::scan::scan_with` meets its contract: the pass starts at frame 0, and where it ends is the answer.
 use native.Mathlib.Omega.{arith}
 use lib.ListN.{length}
-use Rattle.form.specs.Form.{form_of, most-place}
-use Rattle.sheet.specs.Fields.{sheet_of, frames-of}
-use Rattle.sheet.specs.Accepted.{none_sized}
-use Rattle.sheet.specs.Check.{same_checks}
-use Rattle.sheet.specs.Pass.{small_of, scan_starts, root_read}
+use Rattle.form.specs.Form.{form_of}
+use Rattle.form.proofs.FormLaws.{most-place}
+use Rattle.sheet.specs.Fields.{sheet_of}
+use Rattle.sheet.proofs.FieldsLaws.{frames-of}
+use Rattle.sheet.proofs.Accepted.{none_sized}
+use Rattle.sheet.proofs.CheckLaws.{same_checks}
+use Rattle.sheet.proofs.PassLaws.{small_of, scan_starts, root_read}
 use Rattle.sheet.proofs.scan.scan_with.Goals as goal
 
 pub scan_frames-scan-requires : goal.scan_frames-scan-requires

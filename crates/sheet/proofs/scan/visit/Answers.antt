@@ -5,14 +5,16 @@ use mathlib.Core.Path.{◌≡◌, refl, sym, ◌∙◌, ap}
 use native.Mathlib.Omega.{arith}
 use mathlib.Core.List.{List}
 use lib.ListN.{length}
-use Rattle.form.specs.Form.{form_of, most-place}
+use Rattle.form.specs.Form.{form_of}
+use Rattle.form.proofs.FormLaws.{most-place}
 use Rattle.form.specs.declared.Form.{Form}
 use Rattle.sheet.specs.Cause.{first}
-use Rattle.sheet.specs.Fields.{sheet_of, frames-of}
+use Rattle.sheet.specs.Fields.{sheet_of}
+use Rattle.sheet.proofs.FieldsLaws.{frames-of}
 use Rattle.sheet.specs.Rules.{bad_variables, causes_of}
 use Rattle.sheet.specs.Check.{past_by}
 use Rattle.sheet.specs.declared.rules.Seen.{Seen}
-use Rattle.sheet.specs.Pass.{fault_clean, kind-room, kind-range, pass_read, scan_refuses, scan_passes}
+use Rattle.sheet.proofs.PassLaws.{fault_clean, kind-room, kind-range, pass_read, scan_refuses, scan_passes}
 use Rattle.sheet.proofs.scan.visit.Goals as goal
 
 told : {F G : Form} (b : List ℕ) (k : ℕ) (w : Seen) {n : ℕ} → F ≡ G → n ≡ (first (causes_of (sheet_of F b) k (past_by w))).number → n ≡ (first (causes_of (sheet_of G b) k (past_by w))).number

@@ -1,7 +1,7 @@
 -- `solver::reason::dropped` meets its contract: one turn of the definition's fold. Assumes nothing.
 use mathlib.Core.Path.{refl, sym, ◌∙◌, ap}
 use lib.ListN.{length}
-use Rattle.records.specs.Both.{tables_same}
+use Rattle.records.proofs.Both.{tables_same}
 use Rattle.solver.specs.Ask.{ready_grown}
 use Rattle.solver.specs.Why.{turned_absent, turned_idle, less_asking, turned_dropped, turned-kept}
 use Rattle.solver.proofs.reason.dropped.Goals as goal

@@ -1,7 +1,7 @@
 -- `solver::reason::gauged` meets its contract: the fold from the entries, for either verdict. Assumes nothing.
 use native.Mathlib.Omega.{arith}
 use mathlib.Core.Path.{◌∙◌}
-use Rattle.records.specs.Both.{tables_then}
+use Rattle.records.proofs.Both.{tables_then}
 use Rattle.solver.specs.WhyLaws.{ready_entered, gauged_aimed, held-fails, held-assured, reason-no, reason-yes}
 use Rattle.solver.proofs.reason.gauged.Goals as goal
 

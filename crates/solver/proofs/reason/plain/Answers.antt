@@ -1,7 +1,7 @@
 -- `solver::reason::plain` meets its contract: document 01's start for each verdict, and the fold. Assumes nothing.
 use native.Mathlib.Omega.{arith}
 use mathlib.Core.Path.{◌∙◌}
-use Rattle.records.specs.Both.{tables_then}
+use Rattle.records.proofs.Both.{tables_then}
 use Rattle.solver.specs.Ask.{ready_grown}
 use Rattle.solver.specs.Aim.{aimed_none}
 use Rattle.solver.specs.Aim.{plain_asking}

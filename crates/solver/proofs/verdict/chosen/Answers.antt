@@ -3,7 +3,7 @@ use Rattle.solver.specs.Aim.{plain_asking}
 use Rattle.solver.specs.Ask.{ready_grown, answered_yes, answered_no}
 use Rattle.net.specs.Sheet.{net-form}
 use Rattle.search.specs.SearchLaws.{tables_fit}
-use Rattle.proxies.specs.KeptLaws.{low_fits}
+use Rattle.proxies.proofs.KeptLaws.{low_fits}
 use native.Mathlib.Omega.{arith}
 use mathlib.Core.Path.{◌∙◌}
 use Rattle.solver.proofs.verdict.chosen.Goals as goal

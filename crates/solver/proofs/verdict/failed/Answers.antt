@@ -1,6 +1,6 @@
 -- `solver::verdict::failed` meets its contract: the setting that was found, and its record. Assumes nothing.
 use Rattle.solver.specs.GaugedAsk.{failed_of}
-use Rattle.proxies.specs.KeptLaws.{low_fits}
+use Rattle.proxies.proofs.KeptLaws.{low_fits}
 use mathlib.Core.Path.{refl}
 use Rattle.solver.proofs.verdict.failed.Goals as goal
 

@@ -1,5 +1,5 @@
 -- `solver::verdict::failing` meets its contract: the search for a setting of the unread gauges that fails. Assumes nothing.
-use Rattle.cube.specs.Cube.{made_same}
+use Rattle.cube.proofs.CubeLaws.{made_same}
 use Rattle.solver.specs.Ask.{ready_grown}
 use Rattle.solver.specs.GaugedAsk.{failing_asking, failing_settled}
 use Rattle.solver.proofs.verdict.failing.Goals as goal

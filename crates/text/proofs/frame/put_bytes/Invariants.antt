@@ -8,7 +8,7 @@ use mathlib.Core.Path.{◌≡◌, refl, sym, ◌∙◌}
 use lib.ListN.{length, drop, length-set}
 use lib.Seq.{sets, drop-drop}
 use Rattle.text.specs.Line.{digits, bytes}
-use Rattle.text.specs.LineLaws.{digits_two, bytes-put, bytes-none}
+use Rattle.text.proofs.LineLaws.{digits_two, bytes-put, bytes-none}
 use Rattle.text.proofs.frame.put_bytes.Given as goal
 
 abbrev pub invariant-loop-i : goal.invariant-loop-i

@@ -9,7 +9,7 @@ use lib.ListN.{length, drop, length-drop}
 use lib.Seq.{sets, length-sets}
 use Rattle.text.specs.Line.{lines, line_size}
 use Rattle.text.specs.LineStores.{record_within}
-use Rattle.text.specs.LineLaws.{lines_none, first-line, line-digits, size_shape, other-lines, frames-put, next-within}
+use Rattle.text.proofs.LineLaws.{lines_none, first-line, line-digits, size_shape, other-lines, frames-put, next-within}
 use Rattle.text.proofs.frame.put_frames.Given as goal
 
 abbrev pub invariant-loop-i : goal.invariant-loop-i

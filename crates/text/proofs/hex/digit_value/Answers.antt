@@ -2,7 +2,7 @@
 use borrow.Author.Rules.{rules}
 use native.Mathlib.Omega.{arith}
 use mathlib.Core.Path.{sym}
-use Rattle.text.specs.HexLaws.{value-decimal, value-capital, value-lower, value-below, value-before_capitals, value-before-lower, value-above}
+use Rattle.text.proofs.HexLaws.{value-decimal, value-capital, value-lower, value-below, value-before_capitals, value-before-lower, value-above}
 use Rattle.text.proofs.hex.digit_value.Goals as goal
 
 pub returns-then-b-lt48 : goal.returns-then-b-lt48

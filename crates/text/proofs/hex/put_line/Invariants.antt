@@ -7,7 +7,7 @@ use mathlib.Core.Path.{◌≡◌, refl, sym, ap, ◌∙◌}
 use lib.ListN.{length, drop, length-set, drop_of_length-le}
 use lib.Seq.{sets}
 use Rattle.text.specs.Hex.{hex_line}
-use Rattle.text.specs.LineStores.{line-put, line-end}
+use Rattle.text.proofs.LineStores.{line-put, line-end}
 use Rattle.text.proofs.hex.put_line.Given as goal
 
 abbrev pub invariant-loop-i : goal.invariant-loop-i

@@ -8,7 +8,8 @@ use mathlib.Core.Path.{◌≡◌, refl, sym, ap, ◌∙◌}
 use lib.ListN.{length, take, drop, length-drop}
 use lib.Seq.{sets, length-sets, length-take-le}
 use Rattle.text.specs.Hex.{hex_line, hex_lines}
-use Rattle.text.specs.LineStores.{record_within, lines_none, lines-put}
+use Rattle.text.specs.LineStores.{record_within}
+use Rattle.text.proofs.LineStores.{lines_none, lines-put}
 use Rattle.text.proofs.hex.put_lines.Given as goal
 
 abbrev pub invariant-loop-i : goal.invariant-loop-i

@@ -3,10 +3,10 @@ use borrow.Author.Rules.{rules}
 use native.Mathlib.Omega.{arith}
 use mathlib.Core.Path.{◌∙◌}
 use lib.ListN.{drop, length-drop}
-use Rattle.form.specs.Form.{most-place}
+use Rattle.form.proofs.FormLaws.{most-place}
 use Rattle.text.specs.Reading.{Scanned}
-use Rattle.text.specs.LineLaws.{ending-within}
-use Rattle.text.specs.ReadingLaws.{few_bytes, long-sheet, no_empty_line, long-script, bad_line, parts}
+use Rattle.text.proofs.LineLaws.{ending-within}
+use Rattle.text.proofs.ReadingLaws.{few_bytes, long-sheet, no_empty_line, long-script, bad_line, parts}
 use Rattle.text.proofs.layout.scan.Goals as goal
 
 pub overflow_add-past : goal.overflow_add-past

@@ -5,7 +5,7 @@ use lib.ListN.{drop}
 use Rattle.form.specs.Form.{frame_bytes}
 use Rattle.text.specs.Line.{line_size}
 use Rattle.text.specs.Reading.{other}
-use Rattle.text.specs.ReadingLaws.{few_bytes, fault_other, fault_shape}
+use Rattle.text.proofs.ReadingLaws.{few_bytes, fault_other, fault_shape}
 use Rattle.text.proofs.layout.sheet_fault.Goals as goal
 
 pub line_size-requires : goal.line_size-requires

@@ -2,7 +2,7 @@
 use borrow.Author.Rules.{rules}
 use mathlib.Core.Path.{sym, ◌∙◌}
 use lib.ListN.{get_or-eq_default}
-use Rattle.text.specs.LineLaws.{head-drop}
+use Rattle.text.proofs.LineLaws.{head-drop}
 use Rattle.text.proofs.line.byte_at.Goals as goal
 
 pub returns-then-at-text : goal.returns-then-at-text

@@ -8,7 +8,7 @@ use lib.ListN.{drop}
 use lib.Seq.{drop-drop}
 use Rattle.text.specs.Hex.{digit_value}
 use Rattle.text.specs.Line.{digits}
-use Rattle.text.specs.LineLaws.{digits-none, digits_stop, digits-go}
+use Rattle.text.proofs.LineLaws.{digits-none, digits_stop, digits-go}
 use Rattle.text.proofs.line.digits.Goals as goal
 
 pub loop-i-init : goal.loop-i-init

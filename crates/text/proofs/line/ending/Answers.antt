@@ -2,7 +2,7 @@
 use borrow.Author.Rules.{rules}
 use native.Mathlib.Omega.{arith}
 use mathlib.Core.Path.{sym, ◌∙◌}
-use Rattle.text.specs.LineLaws.{head-next, head-within, ending-feed, ending-other, ending_return, ending_lone}
+use Rattle.text.proofs.LineLaws.{head-next, head-within, ending-feed, ending-other, ending_return, ending_lone}
 use Rattle.text.proofs.line.ending.Goals as goal
 
 pub returns-then-first-eq10 : goal.returns-then-first-eq10

@@ -6,7 +6,7 @@ use mathlib.Core.Path.{sym, ◌∙◌}
 use lib.ListN.{drop, length-drop}
 use lib.Seq.{drop-drop}
 use borrow.Author.Tests.{not-true, not-false}
-use Rattle.text.specs.LineLaws.{ending-within, size-no-digits, size-no-end, size-line}
+use Rattle.text.proofs.LineLaws.{ending-within, size-no-digits, size-no-end, size-line}
 use Rattle.text.proofs.line.line_size.Goals as goal
 
 pub overflow_mul-count : goal.overflow_mul-count

@@ -6,7 +6,7 @@ use native.Mathlib.Numerals.{unary_clauses}
 use mathlib.Core.Path.{◌≡◌, sym, ap, ◌∙◌}
 use lib.ListN.{length, drop}
 use Rattle.text.specs.Line.{Lines, no_lines, line_then, lines}
-use Rattle.text.specs.LineLaws.{lines_none, lines_stop, lines-turn, next-within}
+use Rattle.text.proofs.LineLaws.{lines_none, lines_stop, lines-turn, next-within}
 use Rattle.text.proofs.line.lines.Goals as goal
 
 pub loop-count-init : goal.loop-count-init

@@ -1,5 +1,5 @@
 -- `words::w64::without` meets its contract: `m & !o` at 64 bits (`and-not`). Assumes nothing.
-use Rattle.words.specs.Mask.{and-not}
+use Rattle.words.proofs.Mask.{and-not}
 use Rattle.words.proofs.w64.without.Goals as goal
 
 pub returns : goal.returns

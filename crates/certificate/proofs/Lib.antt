@@ -1,0 +1,16 @@
+pub mod Accept
+pub mod Bounds
+pub mod History
+pub mod Before
+pub mod Exists
+pub mod Same
+pub mod Verdicts
+pub mod Certificate
+pub mod CertificateScripts
+pub mod CertificateSession
+pub mod CertificateDesks
+pub mod PanelHolds
+pub mod Written
+pub mod Course
+pub mod Progress
+pub mod Checking

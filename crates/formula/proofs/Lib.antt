@@ -1,0 +1,14 @@
+pub mod Assignment
+pub mod Formula
+pub mod Reason
+pub mod Least
+pub mod Ask
+pub mod FreeMask
+pub mod ReasonWord
+pub mod Over
+pub mod Why
+pub mod GaugeLaws
+pub mod Compute
+pub mod GaugeCompute
+pub mod Example
+pub mod Widths

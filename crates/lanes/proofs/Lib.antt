@@ -1,0 +1,5 @@
+pub mod PatternLaws
+pub mod LanesLaws
+pub mod MarksLaws
+pub mod FillLaws
+pub mod SettleLaws

@@ -1,0 +1,10 @@
+pub mod Entries
+pub mod Refused
+pub mod Line
+pub mod KindsLaws
+pub mod Invariant
+pub mod Script
+pub mod Desks
+pub mod Agree
+pub mod Read
+pub mod Causes

@@ -1,0 +1,9 @@
+pub mod BytesLaws
+pub mod PlaceLaws
+pub mod FormulaLaws
+pub mod Few
+pub mod NormalLaws
+pub mod Certificate
+pub mod CodeLaws
+pub mod VisitLaws
+pub mod WriteLaws

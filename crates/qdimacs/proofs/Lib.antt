@@ -1,0 +1,5 @@
+pub mod CheckLaws
+pub mod MatrixAsked
+pub mod BuildLaws
+pub mod ReadLaws
+pub mod Certificate

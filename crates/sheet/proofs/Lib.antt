@@ -1,0 +1,11 @@
+pub mod FieldsLaws
+pub mod Frames
+pub mod ReaderLaws
+pub mod Cause
+pub mod RuleLaws
+pub mod Accepted
+pub mod Gauges
+pub mod CheckLaws
+pub mod PassLaws
+pub mod Cases
+pub mod Places

@@ -1,0 +1,5 @@
+pub mod Logic
+pub mod Word
+pub mod Mask
+pub mod Bytes
+pub mod Stores
