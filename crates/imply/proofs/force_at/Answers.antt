@@ -18,8 +18,10 @@ returns-then-want-gt2 c =
     (refl, λ a t l W F. (W, F))
 
 pub pass-requires : goal.pass-requires
-pass-requires c =
-    ((c.node_at-node.ensures.is, omega (arith, c.if-want-eq0.false), omega (arith, c.if-want-gt2.false)), c.requires)
+pass-requires c = record {
+  is = (c.node_at-node.ensures.is, omega (arith, c.if-want-eq0.false), omega (arith, c.if-want-gt2.false));
+  grounded = c.requires;
+}
 
 pub take-requires : goal.take-requires
 take-requires c =

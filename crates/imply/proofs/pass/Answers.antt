@@ -22,16 +22,20 @@ returns-then-op-eq3 c =
     }
 
 pub pass_gate-requires : goal.pass_gate-requires
-pass_gate-requires c =
-    ((c.requires.is.0, omega arith, omega arith, c.requires.is.1, c.requires.is.2), c.requires.grounded)
+pass_gate-requires c = record {
+  is = (c.requires.is.0, omega arith, omega arith, c.requires.is.1, c.requires.is.2);
+  grounded = c.requires.grounded;
+}
 
 pub returns-then-op-lt6 : goal.returns-then-op-lt6
 returns-then-op-lt6 c =
     c.pass_gate.ensures
 
 pub pass_quantifier-requires : goal.pass_quantifier-requires
-pass_quantifier-requires c =
-    ((c.requires.is.0, omega arith, c.requires.is.1, c.requires.is.2), c.requires.grounded)
+pass_quantifier-requires c = record {
+  is = (c.requires.is.0, omega arith, c.requires.is.1, c.requires.is.2);
+  grounded = c.requires.grounded;
+}
 
 pub returns : goal.returns
 returns c =
