@@ -10,7 +10,6 @@ use Rattle.sheet.specs.Cause.{Cause, accepted, some_holds, Numbered, Foremost}
 use Rattle.sheet.proofs.Cause.{some_append, numbered_append, none_first, first-none, foremost_exactly}
 use Rattle.sheet.specs.Rules.{size_causes, frame_causes}
 use Rattle.sheet.proofs.RuleLaws.{size_numbered, frame_numbered}
-use Rattle.sheet.specs.Keeps.{Keeps}
 use Rattle.sheet.proofs.Accepted.{none-keeps, keeps-none}
 use Rattle.model.specs.Model.{lines}
 use Rattle.model.specs.Script.{Whole}

@@ -1,5 +1,5 @@
 -- The certificate, conditions 1 and 2: what every call that meets run's contract does, over a sheet of either form. Each theorem stands under its sentence. Assumes nothing.
-use Rattle.std.specs.Prelude.{ℕ, ◌+◌, ◌≤◌, ◌<◌, ◌≡◌, true, false, ◌↔◌, take}
+use Rattle.std.specs.Prelude.{ℕ, ◌+◌, ◌≤◌, ◌<◌, ◌≡◌, true, false, ◌↔◌}
 use Rattle.std.proofs.Common.{arith, sym, ◌∙◌, length-append, length-drop, drop_at}
 use Rattle.std.proofs.Math.Path.{ap}
 use mathlib.Core.List.{List, [], ◌++◌}

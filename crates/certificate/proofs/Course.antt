@@ -1,12 +1,11 @@
 -- The sessions of a run, line by line: each is what the contract of a line makes of the one before. Assumes nothing.
-use Rattle.std.specs.Prelude.{ℕ, zero, suc, ◌+◌, ◌*◌, ◌≡◌, List, get_or}
+use Rattle.std.specs.Prelude.{ℕ, ◌+◌, ◌≡◌, List}
 use Rattle.std.proofs.Common.{add-one, ◌∙◌}
 use Rattle.sheet.specs.Fields.{Sheet}
 use Rattle.session.specs.declared.Session.{Session}
-use Rattle.model.specs.Model.{Answer, after, line_at}
-use Rattle.session.specs.Sound.{standing_of, WordsKept, Empty}
+use Rattle.model.specs.Model.{after, line_at}
+use Rattle.session.specs.Sound.{standing_of, WordsKept}
 use Rattle.session.proofs.Sound.{empty_standing, empty_words}
-use Rattle.session.specs.Step.{Step}
 use Rattle.certificate.specs.Run.{before}
 use Rattle.certificate.specs.Course.{Course, Steps, begun, stepped}
 

@@ -7,7 +7,6 @@ use Rattle.words.proofs.Logic.{by_bool}
 use Rattle.sheet.specs.Fields.{Sheet}
 use Rattle.records.proofs.Table.{kept_grown}
 use Rattle.records.proofs.Both.{tables_none, tables_same, tables_then}
-use Rattle.solver.specs.Contract.{Tables}
 use Rattle.certificate.specs.Run.{Held, as_lent, Grows, Promised-at, LineRecords, History}
 use Rattle.certificate.specs.History.{RecordsTrue}
 

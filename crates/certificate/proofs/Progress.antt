@@ -1,5 +1,5 @@
 -- A run after some of its lines: what one more line adds, and what all of them give. Assumes nothing.
-use Rattle.std.specs.Prelude.{ℕ, ◌+◌, ◌*◌, ◌≤◌, ◌<◌, ◌≡◌, refl, false, List, [], ◌++◌, length, drop, get_or}
+use Rattle.std.specs.Prelude.{ℕ, ◌+◌, ◌≤◌, ◌<◌, ◌≡◌, refl, false, List, [], ◌++◌, length, drop}
 use Rattle.std.proofs.Common.{arith, sym, ◌∙◌, length-append, length-drop}
 use Rattle.std.proofs.Math.Path.{ap}
 use Rattle.form.specs.Form.{answers_in, answer_start}
@@ -15,12 +15,12 @@ use Rattle.net.specs.Sheet.{Checked, NetOf}
 use Rattle.session.specs.declared.Session.{Session}
 use Rattle.model.specs.Model.{Answer, answer_bytes, lines, line_at, answer_at, answers_to, answers}
 use Rattle.model.proofs.Script.{answers-none, answers_next, length-answer_bytes, length-answers_to}
-use Rattle.session.specs.Sound.{standing_of, Sound, OnNet, Empty}
+use Rattle.session.specs.Sound.{standing_of, OnNet, Empty}
 use Rattle.session.proofs.Sound.{empty_sound}
 use Rattle.session.specs.Step.{Step, Tells, Untouched}
-use Rattle.certificate.specs.Run.{causes, book, before, Held, as_lent, Grows, LineRecords, History, Run}
+use Rattle.certificate.specs.Run.{causes, book, before, as_lent, Grows, LineRecords, Run}
 use Rattle.certificate.proofs.History.{lent-true, history-none, history-next, history_grows}
-use Rattle.certificate.specs.Course.{StepAt, Course, begun}
+use Rattle.certificate.specs.Course.{begun}
 use Rattle.certificate.proofs.Course.{course_next, course_stands}
 use Rattle.certificate.specs.Accept.{Proper}
 use Rattle.certificate.proofs.Accept.{causes_numbered, number-proper, proper-accepted}

@@ -1,5 +1,5 @@
 -- When two scripts leave the same entries standing, and when further lines cannot tell them apart. Assumes nothing.
-use Rattle.std.specs.Prelude.{ℕ, zero, suc, ◌≤◌, ◌<◌, ◌≡◌, refl, ◌⊎◌, length, get_or, take, replicate}
+use Rattle.std.specs.Prelude.{ℕ, zero, suc, ◌<◌, ◌≡◌, refl, ◌⊎◌, length, get_or, take, replicate}
 use Rattle.std.proofs.Common.{arith, sym, ◌∙◌, inl, inr, ⊎_elim, length-append, drop_at}
 use Rattle.std.proofs.Math.Path.{ap}
 use mathlib.Core.List.{List, [], ◌++◌, append_assoc}
@@ -8,7 +8,6 @@ use Rattle.std.proofs.lemmas.List.{length-replicate}
 use Rattle.std.proofs.Math.Seq.{take_at}
 use Rattle.form.specs.Form.{answer_start}
 use Rattle.form.proofs.FormLaws.{few-variables}
-use Rattle.form.specs.declared.Form.{Form}
 use Rattle.sheet.specs.Cause.{Refusal}
 use Rattle.sheet.specs.Fields.{Sheet, variables}
 use Rattle.sheet.specs.Rules.{gauges}
@@ -17,7 +16,6 @@ use Rattle.solver.specs.Contract.{root}
 use Rattle.model.specs.declared.Entry.{Entry}
 use Rattle.model.specs.Model.{Meaning, lines, answers_to, answers, standing}
 use Rattle.model.proofs.Entries.{entries-at-most}
-use Rattle.model.specs.Script.{Whole}
 use Rattle.model.proofs.Script.{length-answers_to, standing-keeps, answers_append, lines_append}
 use Rattle.model.specs.Read.{FirstDifference, read_script}
 use Rattle.model.proofs.Read.{first_difference, read_shows}

@@ -1,33 +1,30 @@
 -- What a verdict and a reason say of the entries that stand, in terms of assignments. f is a sheet's formula over n variables, g the word of its gauges.
 -- Assumes nothing.
-use Rattle.std.specs.Prelude.{ℕ, ◌^◌, ◌≤◌, ◌<◌, ◌≡◌, Bool, cond, ◌&&◌, ◌↔◌, List, eqb}
+use Rattle.std.specs.Prelude.{ℕ, ◌≡◌, Bool, ◌&&◌, ◌↔◌, List, eqb}
 use Rattle.std.proofs.Math.Path.{refl, sym}
 use Rattle.std.proofs.Common.{ap, ◌∙◌, ne_eqb}
 use Rattle.std.proofs.Math.Bool.{true, false, not, and-false}
 use Rattle.words.proofs.Logic.{clash, or_cases}
 use Rattle.words.specs.Word.{bit}
 use Rattle.words.proofs.Word.{bit-and, bit-or, bit-none, ext}
-use Rattle.words.specs.Mask.{Sub, without}
+use Rattle.words.specs.Mask.{Sub}
 use Rattle.words.proofs.Mask.{bit-without, bits_sub, sub-bits, bits_apart, sub-or-left, sub-or-right}
-use Rattle.formula.specs.Assignment.{Assignment, On}
-use Rattle.formula.specs.Formula.{Formula, truth, free}
+use Rattle.formula.specs.Formula.{Formula, free}
 use Rattle.formula.specs.Ask.{Verdict, ask, Entries}
 use Rattle.formula.proofs.Ask.{bit-free, some-ask, ask-some, ask-word, ask-none}
 use Rattle.formula.specs.Why.{why, start_word}
 use Rattle.formula.proofs.Why.{why-holds, why_forces, why-free, why-entered, why_idle}
-use Rattle.formula.specs.Gauges.{unread, verdict, reason}
+use Rattle.formula.specs.Gauges.{unread, reason}
 use Rattle.formula.proofs.GaugeLaws.{unread-apart, verdict-plain, verdict-every, every-verdict, verdict_smallest, verdict_failing, reason-plain, reason-holds, reason-entered, reason_forces, reason_needed, revalued}
-use Rattle.sheet.specs.Fields.{Sheet, frames, variables, kind}
+use Rattle.sheet.specs.Fields.{Sheet, variables}
 use Rattle.sheet.specs.Rules.{gauges}
 use Rattle.sheet.proofs.Gauges.{no-gauges, some_gauge}
 use Rattle.sheet.specs.Keeps.{Keeps}
-use Rattle.sheet.specs.declared.Kind.TheVariants.{Gauge}
 use Rattle.solver.specs.Contract.{root, verdict_of, reason_of}
 use Rattle.model.specs.declared.Entry.{Entry}
 use Rattle.model.specs.Model.{entered_mask, entered_values, entered}
 use Rattle.model.specs.Entries.{Entered}
 use Rattle.model.proofs.Entries.{bit-entered_mask, value_none}
-use Rattle.model.specs.Agree.{Agrees}
 use Rattle.model.proofs.Agree.{agrees_on, on_agrees}
 use Rattle.certificate.specs.Run.{book}
 use Rattle.certificate.proofs.Before.{book-entries}

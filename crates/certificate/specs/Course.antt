@@ -1,13 +1,10 @@
 -- The sessions of a run, line by line: each is what the contract of a line makes of the one before. Assumes nothing.
-use Rattle.std.specs.Prelude.{ℕ, zero, suc, ◌+◌, ◌*◌, ◌≡◌, List, get_or}
-use Rattle.std.proofs.Common.{add-one, ◌∙◌}
+use Rattle.std.specs.Prelude.{ℕ, zero, suc, ◌+◌, ◌*◌, List, get_or}
 use Rattle.sheet.specs.Fields.{Sheet}
 use Rattle.session.specs.declared.Session.{Session}
-use Rattle.model.specs.Model.{Answer, after, line_at}
-use Rattle.session.specs.Sound.{standing_of, WordsKept, Empty}
-use Rattle.session.proofs.Sound.{empty_standing, empty_words}
+use Rattle.model.specs.Model.{Answer}
+use Rattle.session.specs.Sound.{Empty}
 use Rattle.session.specs.Step.{Step}
-use Rattle.certificate.specs.Run.{before}
 
 -- line i of the script steps session and tables, and gives that answer
 abbrev pub StepAt : Sheet → List ℕ → ℕ → ℕ → Session → List ℕ → List ℕ → Session → List ℕ → List ℕ → Answer → Type 0

@@ -1,26 +1,15 @@
 -- A run after some of its lines: what one more line adds, and what all of them give. Assumes nothing.
-use Rattle.std.specs.Prelude.{ℕ, ◌+◌, ◌*◌, ◌≤◌, ◌<◌, ◌≡◌, refl, false, List, [], ◌++◌, length, drop, get_or}
-use Rattle.std.proofs.Common.{arith, sym, ◌∙◌, length-append, length-drop}
-use Rattle.std.proofs.Math.Path.{ap}
-use Rattle.form.specs.Form.{answers_in, answer_start}
-use Rattle.form.proofs.FormLaws.{answer-none, answer-next, answers-fit, fit-answers}
+use Rattle.std.specs.Prelude.{ℕ, ◌+◌, ◌*◌, ◌≡◌, List, [], ◌++◌, drop, get_or}
+use Rattle.form.specs.Form.{answer_start}
 use Rattle.form.specs.declared.Form.{Form}
 use Rattle.sheet.specs.Fields.{Sheet, sheet_of}
-use Rattle.sheet.specs.Cause.{Refusal, some_holds}
-use Rattle.sheet.specs.Rules as Rules
-use Rattle.sheet.specs.Check.{Checks}
-use Rattle.sheet.proofs.CheckLaws.{checks_none, checks_free, checks_gauges}
 use Rattle.net.specs.Layout.{free_of}
 use Rattle.net.specs.Sheet.{Checked, NetOf}
 use Rattle.session.specs.declared.Session.{Session}
-use Rattle.model.specs.Model.{Answer, answer_bytes, lines, line_at, answer_at, answers_to, answers}
-use Rattle.model.proofs.Script.{answers-none, answers_next, length-answer_bytes, length-answers_to}
-use Rattle.session.specs.Sound.{standing_of, Sound, OnNet, Empty}
-use Rattle.session.proofs.Sound.{empty_sound}
-use Rattle.session.specs.Step.{Step, Tells, Untouched}
-use Rattle.certificate.specs.Run.{causes, book, before, Held, as_lent, Grows, LineRecords, History, Run}
-use Rattle.certificate.specs.Course.{StepAt, Course, begun}
-use Rattle.certificate.specs.Accept.{Proper}
+use Rattle.model.specs.Model.{Answer, answer_bytes, answers_to}
+use Rattle.session.specs.Sound.{Sound}
+use Rattle.certificate.specs.Run.{book, Held, as_lent, History}
+use Rattle.certificate.specs.Course.{StepAt, Course}
 use Rattle.certificate.specs.Written.{written}
 
 -- k a b c are the bytes of line i

@@ -1,29 +1,14 @@
 -- When two scripts leave the same entries standing, and when further lines cannot tell them apart. Assumes nothing.
-use Rattle.std.specs.Prelude.{ℕ, zero, suc, ◌≤◌, ◌<◌, ◌≡◌, refl, ◌⊎◌, length, get_or, take, replicate}
-use Rattle.std.proofs.Common.{arith, sym, ◌∙◌, inl, inr, ⊎_elim, length-append, drop_at}
-use Rattle.std.proofs.Math.Path.{ap}
-use mathlib.Core.List.{List, [], ◌++◌, append_assoc}
+use Rattle.std.specs.Prelude.{ℕ, ◌≤◌, ◌<◌, ◌≡◌, get_or, take}
+use mathlib.Core.List.{List, ◌++◌}
 use Rattle.std.proofs.Math.ListN.{drop}
-use Rattle.std.proofs.lemmas.List.{length-replicate}
-use Rattle.std.proofs.Math.Seq.{take_at}
 use Rattle.form.specs.Form.{answer_start}
-use Rattle.form.proofs.FormLaws.{few-variables}
 use Rattle.form.specs.declared.Form.{Form}
-use Rattle.sheet.specs.Cause.{Refusal}
-use Rattle.sheet.specs.Fields.{Sheet, variables}
-use Rattle.sheet.specs.Rules.{gauges}
-use Rattle.sheet.specs.Keeps.{Keeps}
-use Rattle.solver.specs.Contract.{root}
-use Rattle.model.specs.declared.Entry.{Entry}
-use Rattle.model.specs.Model.{Meaning, lines, answers_to, answers, standing}
-use Rattle.model.proofs.Entries.{entries-at-most}
+use Rattle.sheet.specs.Fields.{Sheet}
+use Rattle.model.specs.Model.{lines}
 use Rattle.model.specs.Script.{Whole}
-use Rattle.model.proofs.Script.{length-answers_to, standing-keeps, answers_append, lines_append}
-use Rattle.model.specs.Read.{FirstDifference, read_script}
-use Rattle.model.proofs.Read.{first_difference, read_shows}
-use Rattle.certificate.specs.Run.{book}
+use Rattle.model.specs.Read.{read_script}
 use Rattle.certificate.specs.Call.{Call, Ample}
-use Rattle.certificate.specs.Accept.{Proper}
 
 -- a script of at most 900 whole lines
 pub record Earlier (a : List ℕ) : Type 0 where

@@ -3,10 +3,10 @@
 use Rattle.std.specs.Prelude.{◌≡◌, refl, Bool, false, cond, ℕ, ◌^◌, ◌≤◌, ◌<◌, eqb}
 use Rattle.std.proofs.Common.{sym, ◌∙◌, eqb-true}
 use Rattle.std.proofs.Math.Bool.{true}
-use Rattle.std.specs.Int.Bits.{bit_and, bit_or}
+use Rattle.std.specs.Int.Bits.{bit_or}
 use Rattle.words.proofs.Logic.{by_bool}
 use Rattle.words.specs.Word.{bit}
-use Rattle.words.specs.Mask.{Sub, without, put, placed, agree, Agree}
+use Rattle.words.specs.Mask.{Sub, put, agree, Agree}
 use Rattle.words.proofs.Mask.{and-sub, without_mono, put-more, placed_at, placed-other, placed_past, placed-put, placed-lt, placed-sub, agree-bits, bits_agree, masked-bits, bits_masked}
 use Rattle.cube.specs.Cube.{Elsewhere, Fixed, Freed, FreedAll, Made, Replaced}
 

@@ -1,13 +1,10 @@
 -- Cubes of n variables: a mask m, the variables that are fixed, and their values w. What the operations do to the two words, and what that
 -- means variable by variable. Assumes nothing.
-use Rattle.std.specs.Prelude.{◌≡◌, refl, Bool, false, cond, ℕ, ◌^◌, ◌≤◌, ◌<◌, eqb}
-use Rattle.std.proofs.Common.{sym, ◌∙◌, eqb-true}
+use Rattle.std.specs.Prelude.{◌≡◌, Bool, false, ℕ, eqb}
 use Rattle.std.proofs.Math.Bool.{true}
-use Rattle.std.specs.Int.Bits.{bit_and, bit_or}
-use Rattle.words.proofs.Logic.{by_bool}
+use Rattle.std.specs.Int.Bits.{bit_and}
 use Rattle.words.specs.Word.{bit}
-use Rattle.words.specs.Mask.{Sub, without, put, placed, agree, Agree}
-use Rattle.words.proofs.Mask.{and-sub, without_mono, put-more, placed_at, placed-other, placed_past, placed-put, placed-lt, placed-sub, agree-bits, bits_agree, masked-bits, bits_masked}
+use Rattle.words.specs.Mask.{without, placed}
 
 -- the cube m', w' is m, w with two bits replaced at the variable v: the mask's by t, the values' by b
 pub record Replaced (n m w v : ℕ) (t b : Bool) (m' w' : ℕ) : Type 0 where

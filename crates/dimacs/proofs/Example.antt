@@ -1,5 +1,5 @@
 -- A text of a question, field by field: the worked question of prenex, with a comment, blanks and tabs. Assumes nothing.
-use Rattle.std.specs.Prelude.{ℕ, false, List, [], ◌∷◌, ◌≡◌, refl}
+use Rattle.std.specs.Prelude.{ℕ, List, [], ◌∷◌, refl}
 use Rattle.prenex.specs.Example.{worked}
 use Rattle.prenex.proofs.Example.{worked-proper}
 use Rattle.dimacs.specs.Token.{behind_comments, tokens, tokens_within, token, behind, token_here, behind_here, after_blanks, word, blank, separates, token_of, letter_token, is_format, negative_token, number_token, decimal, decimal_from, with_digit, digit}

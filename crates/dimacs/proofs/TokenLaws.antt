@@ -1,9 +1,9 @@
 -- The fields of a text one after the other: the laws that the code goes by. Assumes nothing.
-use Rattle.std.specs.Prelude.{ℕ, zero, suc, ◌+◌, ◌-◌, ◌≤◌, ◌<◌, Bool, true, false, cond, ◌||◌, List, [], ◌∷◌, ◌≡◌, refl, eqb, length, drop}
+use Rattle.std.specs.Prelude.{ℕ, zero, suc, ◌≤◌, ◌<◌, false, List, [], ◌∷◌, ◌≡◌, refl, eqb, length, drop}
 use Rattle.std.proofs.Common.{arith, sym, ap, ap₂, ◌∙◌, drop_of_length-le}
 use Rattle.std.proofs.Math.ListN.{length-drop}
-use Rattle.words.proofs.Logic.{by_bool, clash, or-false}
-use Rattle.dimacs.specs.Token.{line_feed, blank, separates, after_blanks, word, token_here, behind_here, token, behind, tokens_within, tokens, Taken}
+use Rattle.words.proofs.Logic.{by_bool}
+use Rattle.dimacs.specs.Token.{line_feed, blank, separates, after_blanks, word, behind_here, token, behind, tokens_within, tokens, Taken}
 use Rattle.dimacs.specs.declared.token.Token.{Token}
 
 -- ---- behind a field less is left

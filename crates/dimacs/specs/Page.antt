@@ -1,5 +1,5 @@
 -- Which texts are questions in QDIMACS: the grammar, on fields. Assumes nothing.
-use Rattle.std.specs.Prelude.{ℕ, suc, Bool, true, false, cond, List, [], ◌∷◌, ◌≡◌, length}
+use Rattle.std.specs.Prelude.{ℕ, suc, Bool, false, cond, List, [], ◌∷◌, ◌≡◌, length}
 use Rattle.prenex.specs.Question.{Literal, Block, Clause, Question, Proper}
 use Rattle.dimacs.specs.Token.{behind_comments, tokens}
 use Rattle.dimacs.specs.declared.token.Token.{Token}

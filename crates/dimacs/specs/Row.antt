@@ -1,5 +1,5 @@
 -- What the fields of a text say row by row: whether atoms are quantified once and occur, the codes of the clauses, the words of the blocks. Assumes nothing.
-use Rattle.std.specs.Prelude.{ℕ, ◌-◌, ◌*◌, ◌^◌, Bool, true, false, not, cond, ◌&&◌, ◌||◌, List, [], ◌∷◌, ◌≡◌, eqb, leb, ltb}
+use Rattle.std.specs.Prelude.{ℕ, ◌-◌, ◌*◌, ◌^◌, Bool, true, false, not, cond, ◌&&◌, ◌||◌, List, [], ◌∷◌, eqb, leb, ltb}
 use Rattle.std.specs.Int.Bits.{bit_or}
 use Rattle.dimacs.specs.Shape.{number_of, variable_of, mark_of, in_range}
 use Rattle.dimacs.specs.declared.token.Token.{Token}

@@ -2,7 +2,7 @@
 // it prints the record of three numbers that is handed back, or that there is none. Then the same on a wide sheet, whose records have five.
 #![tactic(auto)]
 
-use libc::STDOUT_FILENO;
+use std::io;
 
 // Ten frames; variables 0 and 1 are open.
 const SHEET: [u8; 40] = [
@@ -28,120 +28,92 @@ const TABLE_NUMBERS: usize = 30;
 
 const WIDE_NUMBERS: usize = 50;
 
-fn say(words: &[u8]) {
-    io::write_all(STDOUT_FILENO, words);
-}
-
-fn say_word(word: u32) {
-    io::print_hex(STDOUT_FILENO, word as u64, 8);
-}
-
-fn say_count(count: usize) {
-    io::print_decimal(STDOUT_FILENO, count as u64);
-}
-
-fn say_frame(frame: u32) {
-    io::print_decimal(STDOUT_FILENO, frame as u64);
-}
-
 // A part that the finder handed back: frame, mask, values; or the empty part.
-fn say_part(part: &[u32]) {
+fn say_part(rt: &impl Print, part: &[u32]) -> io::Result<()> {
     if part.len() == 3 {
-        say(b" frame ");
-        say_frame(part[0]);
-        say(b" mask ");
-        say_word(part[1]);
-        say(b" values ");
-        say_word(part[2]);
-        say(b"\n");
+        println!(rt;
+            " frame {} mask {:08x} values {:08x}",
+            part[0], part[1], part[2]
+        )
     } else {
-        say(b" no record\n");
+        println!(rt; " no record")
     }
 }
 
 // The same for a wide part: each word's low half stands before its high one.
-fn say_wide_part(part: &[u32]) {
+fn say_wide_part(rt: &impl Print, part: &[u32]) -> io::Result<()> {
     if part.len() == 5 {
-        say(b" frame ");
-        say_frame(part[0]);
-        say(b" mask ");
-        say_word(part[2]);
-        say_word(part[1]);
-        say(b" values ");
-        say_word(part[4]);
-        say_word(part[3]);
-        say(b"\n");
+        println!(rt;
+            " frame {} mask {:08x}{:08x} values {:08x}{:08x}",
+            part[0], part[2], part[1], part[4], part[3]
+        )
     } else {
-        say(b" no record\n");
+        println!(rt; " no record")
     }
 }
 
 // The first record of the frame that agrees with the setting.
 fn look_up<'a>(
+    rt: &impl Print,
     under: &'a [u32; TABLE_NUMBERS],
     under_count: usize,
     over: &'a [u32; TABLE_NUMBERS],
     over_count: usize,
     frame: u32,
     setting: u32,
-) {
-    say(b"frame ");
-    say_frame(frame);
-    say(b" setting ");
-    say_word(setting);
-    say(b":");
-    say_part(records::find(under, under_count, over, over_count, frame, setting));
+) -> io::Result<()> {
+    print!(rt; "frame {frame} setting {setting:08x}:")?;
+    say_part(
+        rt,
+        records::find(under, under_count, over, over_count, frame, setting),
+    )
 }
 
 fn look_up_wide<'a>(
+    rt: &impl Print,
     under: &'a [u32; WIDE_NUMBERS],
     under_count: usize,
     over: &'a [u32; WIDE_NUMBERS],
     over_count: usize,
     frame: u32,
     setting: u64,
-) {
-    say(b"frame ");
-    say_frame(frame);
-    say(b" setting ");
-    io::print_hex(STDOUT_FILENO, setting, 16);
-    say(b":");
-    say_wide_part(records::find_wide(under, under_count, over, over_count, frame, setting));
+) -> io::Result<()> {
+    print!(rt; "frame {frame} setting {setting:016x}:")?;
+    say_wide_part(
+        rt,
+        records::find_wide(under, under_count, over, over_count, frame, setting),
+    )
 }
 
-fn say_counts(under: usize, over: usize) {
-    say(b"records: under ");
-    say_count(under);
-    say(b", over ");
-    say_count(over);
-    say(b"\n");
+fn say_counts(rt: &impl Print, under: usize, over: usize) -> io::Result<()> {
+    println!(rt; "records: under {under}, over {over}")
 }
 
-fn narrow() {
+fn narrow(rt: &impl Print) -> io::Result<()> {
     let mut answers = [0u8; 18];
     let mut under = [0u32; TABLE_NUMBERS];
     let mut over = [0u32; TABLE_NUMBERS];
     let ran = run::run(&SHEET, &SCRIPT, &mut answers, &mut under, &mut over);
     let m = ran.under;
     let n = ran.over;
-    say_counts(m, n);
-    say(b"both tables\n");
-    look_up(&under, m, &over, n, 9, 2);
-    look_up(&under, m, &over, n, 9, 0);
-    look_up(&under, m, &over, n, 7, 0);
-    look_up(&under, m, &over, n, 7, 1);
-    look_up(&under, m, &over, n, 8, 2);
-    say(b"the under table alone\n");
-    look_up(&under, m, &over, 0, 9, 2);
-    look_up(&under, m, &over, 0, 9, 0);
-    say(b"the over table alone\n");
-    look_up(&under, 0, &over, n, 9, 2);
-    look_up(&under, 0, &over, n, 9, 0);
-    say(b"a count over its table's room\n");
-    look_up(&under, 11, &over, n, 9, 0);
+    say_counts(rt, m, n)?;
+    println!(rt; "both tables")?;
+    look_up(rt, &under, m, &over, n, 9, 2)?;
+    look_up(rt, &under, m, &over, n, 9, 0)?;
+    look_up(rt, &under, m, &over, n, 7, 0)?;
+    look_up(rt, &under, m, &over, n, 7, 1)?;
+    look_up(rt, &under, m, &over, n, 8, 2)?;
+    println!(rt; "the under table alone")?;
+    look_up(rt, &under, m, &over, 0, 9, 2)?;
+    look_up(rt, &under, m, &over, 0, 9, 0)?;
+    println!(rt; "the over table alone")?;
+    look_up(rt, &under, 0, &over, n, 9, 2)?;
+    look_up(rt, &under, 0, &over, n, 9, 0)?;
+    println!(rt; "a count over its table's room")?;
+    look_up(rt, &under, 11, &over, n, 9, 0)
 }
 
-fn wide() {
+fn wide(rt: &impl Print) -> io::Result<()> {
     let mut answers = [0u8; 30];
     let mut under = [0u32; WIDE_NUMBERS];
     let mut over = [0u32; WIDE_NUMBERS];
@@ -154,18 +126,18 @@ fn wide() {
     );
     let m = ran.under;
     let n = ran.over;
-    say(b"a wide sheet\n");
-    say_counts(m, n);
-    look_up_wide(&under, m, &over, n, 9, 0x200000000);
-    look_up_wide(&under, m, &over, n, 9, 0);
-    look_up_wide(&under, m, &over, n, 9, 2);
-    look_up_wide(&under, m, &over, n, 7, 0);
-    look_up_wide(&under, m, &over, n, 7, 1);
-    say(b"a count over its table's room\n");
-    look_up_wide(&under, 11, &over, n, 9, 0);
+    println!(rt; "a wide sheet")?;
+    say_counts(rt, m, n)?;
+    look_up_wide(rt, &under, m, &over, n, 9, 0x200000000)?;
+    look_up_wide(rt, &under, m, &over, n, 9, 0)?;
+    look_up_wide(rt, &under, m, &over, n, 9, 2)?;
+    look_up_wide(rt, &under, m, &over, n, 7, 0)?;
+    look_up_wide(rt, &under, m, &over, n, 7, 1)?;
+    println!(rt; "a count over its table's room")?;
+    look_up_wide(rt, &under, 11, &over, n, 9, 0)
 }
 
-fn main() {
-    narrow();
-    wide();
+fn main(rt: HostRuntime) -> io::Result<()> {
+    narrow(&rt)?;
+    wide(&rt)
 }

@@ -1,5 +1,5 @@
 -- What ASK means: whether the variables that are not entered can be chosen so that f is true, and the smallest choice. Assumes nothing.
-use Rattle.std.specs.Prelude.{ℕ, ◌+◌, ◌^◌, ◌≤◌, ◌<◌, ◌≡◌, Bool, cond, ◌&&◌, ltb}
+use Rattle.std.specs.Prelude.{ℕ, ◌+◌, ◌^◌, ◌≤◌, ◌<◌, ◌≡◌, ◌&&◌, ltb}
 use Rattle.std.proofs.Common.{arith, sym, ◌∙◌}
 use Rattle.std.proofs.Math.Path.{refl}
 use Rattle.std.proofs.Math.Bool.{true, false}
@@ -7,7 +7,7 @@ use borrow.Author.Tests.{ltb-true, lt-ltb, le-ltb}
 use Rattle.words.specs.Logic.{tests}
 use Rattle.words.proofs.Logic.{by_bool, clash, and_both}
 use Rattle.words.specs.Word.{bit}
-use Rattle.words.specs.Mask.{Sub, Apart, without, agree, inside, mask_of}
+use Rattle.words.specs.Mask.{Sub, Apart, without, agree, inside}
 use Rattle.words.proofs.Mask.{sub-bits, bits_sub, sub_trans, sub-lt, sub-le, sub-inside, inside-sub, or-sum, or-sub}
 use Rattle.words.proofs.Mask.{without_sub, without-apart, without_mono, apart-sub, apart-sym, mask_of-lt, bit-mask_of, agree-bits, bits_agree, agree-split, agree-sum}
 use Rattle.formula.specs.Assignment.{Assignment, On}

@@ -20,7 +20,7 @@ use Rattle.formula.specs.Formula.{Formula, never, input, neg, gate, quant, truth
 use Rattle.formula.proofs.Formula.{coincide}
 use Rattle.formula.specs.Ask.{Verdict, yes, no, free_mask, ask}
 use Rattle.formula.proofs.Ask.{ask_chosen, ask_unchosen, free_mask-lt}
-use Rattle.formula.specs.Why.{overlay, always, reduce, start_mask, start_word, why}
+use Rattle.formula.specs.Why.{overlay, always, reduce, why}
 use Rattle.formula.proofs.Why.{reduce_skip}
 use Rattle.formula.specs.Compute.{always_over, ask_over, first_over, reduce_over, sweep_over, truth_over, why_over}
 

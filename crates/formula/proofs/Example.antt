@@ -4,9 +4,9 @@ use Rattle.std.proofs.Common.{sym, ◌∙◌}
 use Rattle.words.specs.Word.{bit}
 use Rattle.words.specs.Mask.{without, inside, mask_of}
 use Rattle.formula.specs.Assignment.{assign, within, join}
-use Rattle.formula.specs.Formula.{Formula, input, neg, and, or, exists, free}
-use Rattle.formula.specs.Ask.{free_mask, ask}
-use Rattle.formula.specs.Why.{overlay, start_mask, start_word, why}
+use Rattle.formula.specs.Formula.{Formula, input, exists, free}
+use Rattle.formula.specs.Ask.{free_mask}
+use Rattle.formula.specs.Why.{overlay, start_mask, start_word}
 use Rattle.formula.specs.Compute.{sweep_over, truth_over, first_over, ask_over, always_over, reduce_over, why_over}
 use Rattle.formula.proofs.Compute.{ask_over-ask, why_over-why}
 use Rattle.formula.specs.Example.{Answered, gauges}

@@ -1,9 +1,9 @@
 -- Formulas, their truth under an assignment, and their free variables. Assumes nothing.
-use Rattle.std.specs.Prelude.{ℕ, ◌≡◌, refl, Bool, not, ◌&&◌, ◌||◌, eqb}
+use Rattle.std.specs.Prelude.{ℕ, ◌≡◌, refl, Bool, not}
 use Rattle.std.proofs.Common.{ap, ap₂, eq-eqb}
 use Rattle.std.proofs.Math.Bool.{true, false, and-false, and-true}
 use Rattle.words.proofs.Logic.{or_left, or_right}
-use Rattle.formula.specs.Assignment.{Assignment, within, join, sweep, On, Off}
+use Rattle.formula.specs.Assignment.{Assignment, within, join, On, Off}
 use Rattle.formula.proofs.Assignment.{sweep_finds, sweep_meets, sweep_misses, sweep-all, sweep-reads}
 use Rattle.formula.specs.Formula.{Formula, exists, forall, free, gate, input, neg, never, quant, truth}
 

@@ -1,6 +1,6 @@
 -- Twins of ASK and WHY with gauges that compute: a quantifier over a mask goes as deep as there are variables, and nothing is computed that is not read.
 -- Each is proved equal to its definition. Assumes nothing.
-use Rattle.std.specs.Prelude.{ℕ, zero, suc, ◌+◌, ◌-◌, ◌^◌, ◌<◌, ◌≡◌, refl, Bool, not, cond, ◌&&◌, eqb, ltb}
+use Rattle.std.specs.Prelude.{ℕ, zero, suc, ◌+◌, ◌-◌, ◌^◌, ◌<◌, ◌≡◌, refl, Bool, ltb}
 use Rattle.std.proofs.Common.{arith, add-zero, add-suc, sym, ◌∙◌}
 use Rattle.std.proofs.Math.Path.{ap, fun_ext}
 use Rattle.std.proofs.Math.Bool.{true, false}
@@ -9,17 +9,14 @@ use Rattle.words.specs.Logic.{tests}
 use Rattle.words.proofs.Logic.{by_bool}
 use Rattle.words.specs.Word.{bit}
 use Rattle.words.proofs.Word.{bit_high}
-use Rattle.words.specs.Mask.{inside}
 use Rattle.words.proofs.Mask.{sub-lt}
-use Rattle.formula.specs.Formula.{Formula, quant}
+use Rattle.formula.specs.Formula.{Formula}
 use Rattle.formula.specs.Over.{quants, over}
 use Rattle.formula.proofs.Over.{below-pow}
 use Rattle.formula.specs.Least.{least}
-use Rattle.formula.specs.Ask.{Verdict, yes}
 use Rattle.formula.proofs.Ask.{free_mask-lt}
-use Rattle.formula.specs.Gauges.{unread, ours, possible, assured, fails, no_at, verdict, reason}
+use Rattle.formula.specs.Gauges.{unread, ours, possible, assured, fails, verdict, reason}
 use Rattle.formula.proofs.GaugeLaws.{unread-free, ours-free}
-use Rattle.formula.specs.Compute.{truth_over, ask_over, reduce_over, why_over}
 use Rattle.formula.proofs.Compute.{truth_over-truth, ask_over-ask, reduce_over-reduce, why_over-why}
 use Rattle.formula.specs.GaugeCompute.{assured_over, fails_over, least_over, possible_over, quants_over, reason_over, verdict_over}
 

@@ -16,9 +16,8 @@ use Rattle.formula.specs.Formula.{Formula, truth, free}
 use Rattle.formula.proofs.Formula.{coincide}
 use Rattle.formula.specs.Least.{least}
 use Rattle.formula.proofs.Least.{least-is, least-hit, least_miss}
-use Rattle.formula.specs.Ask.{Verdict, yes, no, free_mask, ask, Bounded, Entries, Smallest}
+use Rattle.formula.specs.Ask.{Verdict, yes, free_mask, ask, Bounded, Entries, Smallest}
 use Rattle.formula.proofs.Ask.{bit-free, ask-some, ask-never, ask-word}
-use Rattle.formula.specs.Ask as Question
 use Rattle.formula.proofs.Ask as QuestionLaws
 use Rattle.formula.specs.Over.{over, Beside, blend}
 use Rattle.formula.proofs.Over.{blend_on, blend-off, over_meets, over-all, over_misses, over-free, bounded-over}

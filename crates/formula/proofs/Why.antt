@@ -11,7 +11,7 @@ use Rattle.words.specs.Word.{bit}
 use Rattle.words.proofs.Word.{bit-pow}
 use Rattle.words.specs.Mask.{Sub, without}
 use Rattle.words.proofs.Mask.{bits_sub, sub_refl, sub_trans, without_sub, without_mono, without-none, bit-without}
-use Rattle.formula.specs.Assignment.{Assignment, within, sweep, On, Off}
+use Rattle.formula.specs.Assignment.{Assignment, within, On, Off}
 use Rattle.formula.proofs.Assignment.{differ, sweep_finds, sweep_misses, sweep-all}
 use Rattle.formula.specs.Formula.{Formula, truth, free}
 use Rattle.formula.proofs.Formula.{coincide}

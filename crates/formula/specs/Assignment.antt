@@ -1,10 +1,5 @@
 -- Assignments of the variables, ranges of variables, and quantification over a range. Assumes nothing.
-use Rattle.std.specs.Prelude.{ℕ, zero, suc, ◌+◌, ◌≡◌, refl, Bool, true, false, not, cond, ◌&&◌, ◌||◌, eqb, leb, ltb}
-use Rattle.std.proofs.Common.{arith, sym, ◌∙◌, ap, ap₂, true≢false, eqb-true, le-leb, lt-ltb, eq-eqb}
-use Rattle.std.proofs.Math.Path.{fun_ext}
-use Rattle.std.proofs.lemmas.Bool.{lt-leb}
-use Rattle.words.specs.Logic.{tests}
-use Rattle.words.proofs.Logic.{by_bool, or_right, or-false}
+use Rattle.std.specs.Prelude.{ℕ, zero, suc, ◌+◌, ◌≡◌, Bool, true, false, not, cond, ◌&&◌, ◌||◌, eqb, leb, ltb}
 
 -- document 01's setting: a value for each variable
 abbrev pub Assignment : Type 0

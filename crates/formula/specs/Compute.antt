@@ -1,23 +1,14 @@
 -- Twins of truth, ask, always and why that compute: they visit only the variables that the formula has, and stop where a value is decided.
 -- (What a `let` binds is computed only where it is read.) Each is proved equal to its definition. Assumes nothing.
-use Prim.Native.Nat.{ℕ, zero, suc, ◌+◌, ◌^◌, ◌<◌}
-use native.Mathlib.Omega.{arith}
-use Rattle.std.proofs.Common.{pow-suc, add_comm, sym, ap₂, ◌∙◌, inl, inr, ⊎_elim, eqb-true, ltb-true, ltb-false}
-use Rattle.std.proofs.Math.Nat.{add-zero}
-use Rattle.std.specs.Prelude.{◌≡◌, refl, Bool, true, false, not, cond, ◌&&◌, ◌⊎◌, eqb, ltb}
-use Rattle.std.proofs.Math.Path.{ap, fun_ext}
+use Prim.Native.Nat.{ℕ, zero, suc, ◌+◌, ◌^◌}
+use Rattle.std.specs.Prelude.{Bool, true, false, not, cond, ◌&&◌}
 use Rattle.std.specs.Bool.{beq}
-use Rattle.std.proofs.Math.Arith.{lt-one}
-use Rattle.words.specs.Logic.{tests}
-use Rattle.words.proofs.Logic.{by_bool, clash, and_both}
 use Rattle.words.specs.Word.{bit}
-use Rattle.words.proofs.Word.{bit-pow, bit_high}
-use Rattle.words.specs.Mask.{Sub, Apart, without, inside, Top}
-use Rattle.words.proofs.Mask.{bits_sub, sub_trans, sub-without, inside-sub, none-sub, sub-lt, apart-bits, apart-sym, add-one-sub, without_sub, top_bit, top_rest}
-use Rattle.formula.specs.Assignment.{Assignment, assign, join, sweep, within, On}
-use Rattle.formula.specs.Formula.{Formula, never, input, neg, gate, quant, truth, free}
+use Rattle.words.specs.Mask.{without, inside}
+use Rattle.formula.specs.Assignment.{Assignment, assign, join}
+use Rattle.formula.specs.Formula.{Formula, never, input, neg, gate, quant, free}
 use Rattle.formula.specs.Ask.{Verdict, yes, no, free_mask, ask}
-use Rattle.formula.specs.Why.{overlay, always, reduce, start_mask, start_word, why}
+use Rattle.formula.specs.Why.{overlay, start_mask, start_word}
 
 -- ---- truth
 

@@ -1,9 +1,7 @@
 -- Formulas, their truth under an assignment, and their free variables. Assumes nothing.
-use Rattle.std.specs.Prelude.{ℕ, ◌≡◌, refl, Bool, not, ◌&&◌, ◌||◌, eqb}
-use Rattle.std.proofs.Common.{ap, ap₂, eq-eqb}
-use Rattle.std.proofs.Math.Bool.{true, false, and-false, and-true}
-use Rattle.words.proofs.Logic.{or_left, or_right}
-use Rattle.formula.specs.Assignment.{Assignment, within, join, sweep, On, Off}
+use Rattle.std.specs.Prelude.{ℕ, Bool, not, ◌&&◌, ◌||◌, eqb}
+use Rattle.std.proofs.Math.Bool.{true, false}
+use Rattle.formula.specs.Assignment.{Assignment, within, join, sweep}
 
 -- A gate and a quantifier carry the truth that decides them, so that each law is stated once.
 pub data Formula : Type 0 where

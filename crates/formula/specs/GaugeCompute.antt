@@ -1,21 +1,13 @@
 -- Twins of ASK and WHY with gauges that compute: a quantifier over a mask goes as deep as there are variables, and nothing is computed that is not read.
 -- Each is proved equal to its definition. Assumes nothing.
-use Rattle.std.specs.Prelude.{ℕ, zero, suc, ◌+◌, ◌-◌, ◌^◌, ◌<◌, ◌≡◌, refl, Bool, not, cond, ◌&&◌, eqb, ltb}
-use Rattle.std.proofs.Common.{arith, add-zero, add-suc, sym, ◌∙◌}
-use Rattle.std.proofs.Math.Path.{ap, fun_ext}
+use Rattle.std.specs.Prelude.{ℕ, zero, suc, ◌+◌, Bool, not, cond, ◌&&◌, eqb}
 use Rattle.std.proofs.Math.Bool.{true, false}
 use Rattle.std.specs.Int.Bits.{bit_or}
-use Rattle.words.specs.Logic.{tests}
-use Rattle.words.proofs.Logic.{by_bool}
 use Rattle.words.specs.Word.{bit}
-use Rattle.words.proofs.Word.{bit_high}
 use Rattle.words.specs.Mask.{inside}
-use Rattle.words.proofs.Mask.{sub-lt}
 use Rattle.formula.specs.Formula.{Formula, quant}
-use Rattle.formula.specs.Over.{quants, over}
-use Rattle.formula.specs.Least.{least}
 use Rattle.formula.specs.Ask.{Verdict, yes}
-use Rattle.formula.specs.Gauges.{unread, ours, possible, assured, fails, no_at, verdict, reason}
+use Rattle.formula.specs.Gauges.{unread, ours, no_at}
 use Rattle.formula.specs.Compute.{truth_over, ask_over, reduce_over, why_over}
 
 -- ---- a quantifier over a mask

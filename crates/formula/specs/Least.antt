@@ -1,8 +1,5 @@
 -- The least number of a range that passes a test. Assumes nothing.
-use Rattle.std.specs.Prelude.{ℕ, zero, suc, ◌+◌, ◌≤◌, ◌<◌, ◌≡◌, Bool, true, false, cond, eqb, ltb}
-use Rattle.std.proofs.Common.{arith, eqb-true}
-use Rattle.words.specs.Logic.{tests}
-use Rattle.words.proofs.Logic.{by_bool, clash}
+use Rattle.std.specs.Prelude.{ℕ, zero, suc, Bool, cond}
 
 -- the first of the c numbers from b on that passes p, or b + c
 unfoldable pub least : (ℕ → Bool) → ℕ → ℕ → ℕ

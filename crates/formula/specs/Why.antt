@@ -1,20 +1,13 @@
 -- What WHY means: the reason that is left when no variable of it is idle. Assumes nothing.
-use Prim.Native.Nat.{ℕ, zero, suc, ◌+◌, ◌^◌, ◌<◌}
-use Rattle.std.proofs.Common.{arith, ap, ◌∙◌, eqb-true, eq-eqb, ltb-true, lt-ltb, le-leb}
-use Rattle.std.specs.Prelude.{◌≡◌, refl, Bool, not, cond, eqb, ltb}
-use Rattle.std.proofs.Math.Path.{sym}
-use Rattle.std.proofs.Math.Bool.{true, false, and-false}
+use Prim.Native.Nat.{ℕ, zero, suc, ◌^◌}
+use Rattle.std.specs.Prelude.{Bool, cond}
+use Rattle.std.proofs.Math.Bool.{false}
 use Rattle.std.specs.Bool.{beq}
-use Rattle.words.specs.Logic.{tests}
-use Rattle.words.proofs.Logic.{by_bool, clash, and_both}
 use Rattle.words.specs.Word.{bit}
-use Rattle.words.proofs.Word.{bit-pow}
-use Rattle.words.specs.Mask.{Sub, without}
-use Rattle.words.proofs.Mask.{bits_sub, sub_refl, sub_trans, without_sub, without_mono, without-none, bit-without}
-use Rattle.formula.specs.Assignment.{Assignment, within, sweep, On, Off}
-use Rattle.formula.specs.Formula.{Formula, truth, free}
-use Rattle.formula.specs.Reason.{Explains}
-use Rattle.formula.specs.Ask.{Verdict, Bounded, Entries, free_mask, ask}
+use Rattle.words.specs.Mask.{without}
+use Rattle.formula.specs.Assignment.{Assignment, sweep}
+use Rattle.formula.specs.Formula.{Formula, truth}
+use Rattle.formula.specs.Ask.{Verdict, free_mask, ask}
 
 -- w on the variables of m, σ elsewhere
 unfoldable pub overlay : ℕ → ℕ → Assignment → Assignment

@@ -1,13 +1,12 @@
 -- What a C host gets from one call: the number that is returned, and the answers at exit, for every input. Assumes nothing.
-use Rattle.std.specs.Prelude.{ℕ, ◌+◌, ◌*◌, ◌/◌, ◌%◌, ◌<◌, ◌≡◌, List, ◌++◌, length, drop}
+use Rattle.std.specs.Prelude.{ℕ, ◌/◌, ◌%◌, ◌<◌, ◌≡◌, List, length}
 use Rattle.std.proofs.Common.{arith, ◌∙◌, ap₂}
 use Rattle.form.specs.Form.{answer_start}
 use Rattle.form.specs.Form as Sizes
 use Rattle.form.specs.declared.Form.{Form}
 use Rattle.form.specs.declared.Form.TheVariants.{Narrow, Wide}
 use Rattle.sheet.specs.Fields.{Sheet}
-use Rattle.model.specs.Model.{lines, answers}
-use Rattle.certificate.specs.Run.{refusal, book, Run}
+use Rattle.certificate.specs.Run.{refusal, Run}
 use Rattle.certificate.proofs.Bounds.{place-below}
 use Rattle.hammerloom.specs.Host.{Host, result_of, result_unit}
 

@@ -12,7 +12,7 @@ use Rattle.words.proofs.Mask.{bit-without, without-sum, without_sub, without-apa
 use Rattle.formula.specs.Assignment.{On}
 use Rattle.formula.proofs.Assignment.{by_value}
 use Rattle.formula.specs.Formula.{truth, free}
-use Rattle.net.specs.Net.{Net, Clear}
+use Rattle.net.specs.Net.{Clear}
 use Rattle.net.specs.Layout.{packed, formula_at, val}
 use Rattle.judge.specs.Judge.{Judged}
 use Rattle.judge.specs.JudgeLaws.{judged-more}

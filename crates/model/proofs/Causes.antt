@@ -1,10 +1,9 @@
 -- The refusal of a line, kind by kind, as the code tests it. Assumes nothing.
-use Rattle.std.specs.Prelude.{ℕ, ◌≡◌, true, false, not, cond, List, length, eqb, leb, ltb}
+use Rattle.std.specs.Prelude.{ℕ, ◌≡◌, true, false, cond, List, length, eqb, leb}
 use borrow.Author.Tests.{ne_eqb}
-use Rattle.words.specs.Word.{bit}
 use Rattle.sheet.specs.Refusal as Number
 use Rattle.model.specs.declared.Entry.{Entry}
-use Rattle.model.specs.Model.{Meaning, entered_mask, ENTER, TAKE-BACK, READ, unknown, last_desk, line_refusal}
+use Rattle.model.specs.Model.{Meaning, entered_mask, ENTER, TAKE-BACK, READ, unknown, line_refusal}
 use Rattle.model.proofs.Entries.{bit-entered_mask}
 use Rattle.model.specs.Causes.{Opens, enter_cause}
 

@@ -1,5 +1,5 @@
 -- A line of the reference model is refused exactly if a cause of the rules' table holds, and then it changes nothing. Assumes nothing.
-use Prim.Native.Nat.{ℕ, ◌≤◌, ◌<◌, suc-le-suc}
+use Prim.Native.Nat.{ℕ, ◌<◌, suc-le-suc}
 use Rattle.std.proofs.Common.{arith, sym, ap, ◌∙◌, ltb→lt}
 use Rattle.std.specs.Prelude.{◌≡◌, refl, Bool, true, false, not, cond, ◌&&◌, List, length, T, eqb, leb, ltb}
 use borrow.Author.Tests.{ltb-false, leb-false}
@@ -8,7 +8,7 @@ use Rattle.words.proofs.Logic.{by_bool}
 use Rattle.sheet.specs.Refusal as Number
 use Rattle.model.specs.declared.Entry.{Entry}
 pub use Rattle.model.proofs.Refused.{line_refused, line_taken}
-use Rattle.model.specs.Model.{Meaning, entered, refused, Reply, ENTER, TAKE-BACK, READ, ASK, unknown, last_desk, line_refusal, obeyed, line}
+use Rattle.model.specs.Model.{Meaning, entered, refused, Reply, ENTER, TAKE-BACK, READ, ASK, last_desk, line_refusal, obeyed, line}
 use Rattle.model.specs.Line.{Passes}
 
 -- the first of the causes does not hold, and neither do the others

@@ -1,5 +1,5 @@
 -- READ lines show every entry: two lists of entries are equal, or one READ line tells them apart. Assumes nothing.
-use Rattle.std.specs.Prelude.{◌/◌, ◌%◌, ◌^◌, ℕ, suc, ◌≤◌, ◌<◌, ◌≡◌, refl, ◌⊎◌, List, [], ◌∷◌, length, get_or, take, eqb, ltb}
+use Rattle.std.specs.Prelude.{◌/◌, ◌%◌, ◌^◌, ℕ, suc, ◌≤◌, ◌<◌, ◌≡◌, refl, ◌⊎◌, List, [], ◌∷◌, length, get_or, eqb, ltb}
 use Rattle.std.proofs.Common.{arith, sym, ap, ap₂, ◌∙◌, inl, inr, ⊎_elim}
 use Rattle.words.specs.Logic.{tests}
 use Rattle.words.proofs.Logic.{by_bool}

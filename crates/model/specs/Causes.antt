@@ -1,10 +1,8 @@
 -- The refusal of a line, kind by kind, as the code tests it. Assumes nothing.
-use Rattle.std.specs.Prelude.{ℕ, ◌≡◌, true, false, not, cond, List, length, eqb, leb, ltb}
-use borrow.Author.Tests.{ne_eqb}
+use Rattle.std.specs.Prelude.{ℕ, ◌≡◌, not, cond, ltb}
 use Rattle.words.specs.Word.{bit}
 use Rattle.sheet.specs.Refusal as Number
-use Rattle.model.specs.declared.Entry.{Entry}
-use Rattle.model.specs.Model.{Meaning, entered_mask, ENTER, TAKE-BACK, READ, unknown, last_desk, line_refusal}
+use Rattle.model.specs.Model.{Meaning, last_desk}
 
 -- the variables that m has open are those of the word
 abbrev pub Opens : Meaning → ℕ → Type 0

@@ -1,23 +1,12 @@
 -- Two scripts that differ in the desks of their ENTER lines alone: the same variables and values stand after each line, and the answers are the same but
 -- for the desks that are told. Assumes nothing.
-use Prim.Native.Nat.{ℕ, zero, suc, ◌+◌, ◌-◌, ◌*◌, ◌/◌, ◌%◌, ◌^◌, ◌≤◌, ◌<◌}
-use native.Mathlib.Omega.{arith}
-use Rattle.std.specs.Prelude.{◌≡◌, refl, Bool, false, ◌&&◌, ◌||◌, List, [], ◌∷◌, ◌++◌, map, get_or, take}
-use Rattle.std.proofs.Common.{sym, ap, ap₂, ◌∙◌}
+use Prim.Native.Nat.{ℕ, ◌-◌, ◌/◌, ◌%◌, ◌^◌, ◌≤◌}
+use Rattle.std.specs.Prelude.{◌≡◌, Bool, false, ◌&&◌, ◌||◌, List, map, get_or}
 use Rattle.std.proofs.Math.Bool.{true}
-use Rattle.std.proofs.lemmas.List.{map-append, length-map}
-use Rattle.std.proofs.Math.ListN.{length, get_or-map}
+use Rattle.std.proofs.Math.ListN.{length}
 use Rattle.std.proofs.Math.Dec.{eqb}
-use borrow.Author.Tests.{le-ltb}
-use Rattle.words.specs.Logic.{tests}
-use Rattle.words.proofs.Logic.{by_bool, clash, or_left, or_right}
-use Rattle.words.specs.Word.{bit}
-use Rattle.sheet.specs.Rules.{spare_set}
 use Rattle.model.specs.declared.Entry.{Entry}
-use Rattle.model.specs.Model.{Meaning, no_entry, entered, entered_mask, entered_values, Answer, answer_bytes, told, Reply, ENTER, TAKE-BACK, READ, ASK, used, unknown, last_desk, line_refusal, obeyed, line, line_at, after, answer_at}
-use Rattle.model.specs.Entries.{Entered, entry_at}
-use Rattle.model.specs.Line.{Passes}
-use Rattle.model.specs.Script.{each_byte}
+use Rattle.model.specs.Model.{Answer, ENTER, TAKE-BACK, READ, last_desk}
 use Rattle.form.specs.declared.Form.{Form}
 use Rattle.form.specs.declared.Form.TheVariants.{Narrow, Wide}
 

@@ -1,13 +1,8 @@
 -- A line of the reference model is refused exactly if a cause of the rules' table holds, and then it changes nothing. Assumes nothing.
-use Prim.Native.Nat.{ℕ, ◌≤◌, ◌<◌, suc-le-suc}
-use Rattle.std.proofs.Common.{arith, sym, ap, ◌∙◌, ltb→lt}
-use Rattle.std.specs.Prelude.{◌≡◌, refl, Bool, true, false, not, cond, ◌&&◌, List, length, T, eqb, leb, ltb}
-use borrow.Author.Tests.{ltb-false, leb-false}
-use Rattle.words.specs.Logic.{tests, not-false}
-use Rattle.words.proofs.Logic.{by_bool}
-use Rattle.sheet.specs.Refusal as Number
+use Prim.Native.Nat.{ℕ, ◌≤◌, ◌<◌}
+use Rattle.std.specs.Prelude.{◌≡◌, true, false, List, length}
 use Rattle.model.specs.declared.Entry.{Entry}
-use Rattle.model.specs.Model.{Meaning, entered, refused, Reply, ENTER, TAKE-BACK, READ, ASK, unknown, last_desk, line_refusal, obeyed, line}
+use Rattle.model.specs.Model.{Meaning, entered, ENTER, TAKE-BACK, READ, unknown, last_desk}
 
 -- no cause of the rules' table refuses the line
 pub record Passes (m : Meaning) (es : List Entry) (k a b c : ℕ) : Type 0 where

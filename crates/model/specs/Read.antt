@@ -1,15 +1,8 @@
 -- READ lines show every entry: two lists of entries are equal, or one READ line tells them apart. Assumes nothing.
-use Rattle.std.specs.Prelude.{◌/◌, ◌%◌, ◌^◌, ℕ, suc, ◌≤◌, ◌<◌, ◌≡◌, refl, ◌⊎◌, List, [], ◌∷◌, length, get_or, take, eqb, ltb}
-use Rattle.std.proofs.Common.{arith, sym, ap, ap₂, ◌∙◌, inl, inr, ⊎_elim}
-use Rattle.words.specs.Logic.{tests}
-use Rattle.words.proofs.Logic.{by_bool}
-use Rattle.sheet.specs.Refusal as Number
+use Rattle.std.specs.Prelude.{ℕ, ◌≤◌, ◌<◌, ◌≡◌, List, [], ◌∷◌, length, take}
 use Rattle.model.specs.declared.Entry.{Entry}
-use Rattle.model.specs.Model.{Meaning, Answer, answer_bytes, Reply, told, refused, READ, line, line_at, after, answer_at, answers_to}
-use Rattle.model.specs.Entries.{Entered, entry_at}
-use Rattle.model.specs.Script.{each_byte}
-use Rattle.form.specs.declared.Form.{Form}
-use Rattle.form.specs.declared.Form.TheVariants.{Narrow, Wide}
+use Rattle.model.specs.Model.{READ}
+use Rattle.model.specs.Entries.{entry_at}
 
 -- ---- two lists are equal or have a first difference
 

@@ -1,6 +1,6 @@
 -- A net as one list of words, which a run lends to every line: how many frames, the free variables of the last one, the gauges, the links of `link`, and two
 -- words a node. What can be read off the words is the net `packed`. Assumes nothing.
-use Rattle.std.specs.Prelude.{ℕ, ◌+◌, ◌-◌, ◌*◌, ◌/◌, ◌%◌, ◌<◌, ◌≤◌, ◌≡◌, Bool, true, false, not, cond, List, length, get_or, ltb}
+use Rattle.std.specs.Prelude.{ℕ, ◌+◌, ◌-◌, ◌*◌, ◌/◌, ◌%◌, ◌<◌, ◌≤◌, ◌≡◌, Bool, not, cond, List, length, get_or, ltb}
 use Rattle.std.proofs.Common.{arith, ◌∙◌, subst, eq-eqb, ne_eqb}
 use Rattle.std.proofs.Math.Path.{ap}
 use Rattle.std.proofs.Math.Dec.{eqb}

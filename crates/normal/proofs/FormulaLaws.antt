@@ -1,7 +1,7 @@
 -- What the formulas of frames have in common with them: their parts, the variables that they bind and read, and that a formula's frame is the last one.
 -- Assumes nothing.
-use Rattle.std.specs.Prelude.{ℕ, zero, suc, ◌+◌, ◌≤◌, ◌<◌, ◌≡◌, Bool, true, not, ◌&&◌, ◌||◌, length, eqb, ltb}
-use Rattle.std.proofs.Common.{arith, sym, ap₂, ◌∙◌, subst}
+use Rattle.std.specs.Prelude.{ℕ, zero, suc, ◌+◌, ◌≤◌, ◌<◌, ◌≡◌, Bool, true, not, length, ltb}
+use Rattle.std.proofs.Common.{arith, sym, ◌∙◌, subst}
 use Rattle.std.proofs.Math.Path.{refl, ap}
 use Rattle.std.proofs.Math.Bool.{false}
 use mathlib.Core.List.{List, []}
@@ -13,11 +13,10 @@ use Rattle.formula.specs.Formula.{Formula, never, input, neg, gate, quant, free}
 use Rattle.sheet.specs.Frames.{build, formula_of}
 use Rattle.sheet.specs.Rules as Rules
 use Rattle.sheet.specs.declared.Kind.{Kind}
-use Rattle.sheet.specs.declared.Kind.TheVariants.{Never, Not}
+use Rattle.sheet.specs.declared.Kind.TheVariants.{Not}
 use Rattle.normal.specs.Normal.{Placed, index, put, reading, gate_of, quant_of, place}
-use Rattle.normal.specs.Words.{kind_at}
 use Rattle.normal.specs.PlaceLaws.{Frames, Formed, nothing, reads, denies, joins, binds, Written, formula_at, Every, Below}
-use Rattle.normal.proofs.PlaceLaws.{formed, formula-at, index-le, index-hit, put-new, length_snoc, joined, none_written, place-places, place-every, build-gate, build-quant}
+use Rattle.normal.proofs.PlaceLaws.{formed, formula-at, index-le, index-hit, put-new, length_snoc, joined, none_written, place-places, place-every, build-quant}
 use Rattle.normal.specs.FormulaLaws.{binder, occurs}
 
 -- ---- frames in order

@@ -1,33 +1,28 @@
 -- The frames of a normal sheet, from those of a sheet that is accepted: each has the formula of one of these, they are no more, and the last has the
 -- sheet's formula. Assumes nothing.
-use Rattle.std.specs.Prelude.{ℕ, suc, ◌+◌, ◌-◌, ◌≤◌, ◌<◌, ◌≡◌, refl, Bool, true, false}
+use Rattle.std.specs.Prelude.{ℕ, ◌-◌, ◌≤◌, ◌<◌, ◌≡◌, refl, Bool, true, false}
 use Rattle.std.proofs.Common.{arith, sym, ◌∙◌, subst, inl, inr}
 use Rattle.std.proofs.Math.Path.{ap, fun_ext}
-use mathlib.Core.List.{List, []}
+use mathlib.Core.List.{[]}
 use Rattle.std.proofs.Math.ListN.{length}
-use Rattle.words.proofs.Logic.{by_bool, clash}
-use Rattle.words.specs.Word.{bit}
-use Rattle.form.specs.Form as Sizes
-use Rattle.form.specs.declared.Form.{Form}
-use Rattle.form.specs.declared.Form.TheVariants.{Narrow, Wide}
+use Rattle.words.proofs.Logic.{by_bool}
 use Rattle.formula.specs.Formula.{Formula}
 use Rattle.sheet.specs.Cause.{Refusal}
-use Rattle.sheet.specs.Fields.{Sheet, sheet_of, frames, variables, most_frames, kind}
+use Rattle.sheet.specs.Fields.{Sheet, frames, variables, kind}
 use Rattle.sheet.specs.Frames.{formula, formula_of, Fit}
-use Rattle.sheet.specs.Rules.{last, gauges}
+use Rattle.sheet.specs.Rules.{last}
 use Rattle.sheet.proofs.Gauges.{gauge_named, some_gauge}
 use Rattle.sheet.specs.Keeps.{Keeps}
 use Rattle.sheet.specs.Accepted.{Accepted}
 use Rattle.sheet.proofs.Accepted.{accepted-sheet, accepted_exactly}
 use Rattle.sheet.specs.declared.Kind.{Kind}
 use Rattle.sheet.specs.declared.Kind.TheVariants.{Never, Input, Not, And, Or, Exists, Forall, Gauge}
-use Rattle.normal.specs.Normal.{fields_of, reading, gate_of, quant_of, place, gauge_of, normal_frames, normal_bytes, normal}
-use Rattle.normal.specs.Words.{kind_at, Fits, AllFit}
+use Rattle.normal.specs.Normal.{reading, place, gauge_of, normal_frames, normal}
+use Rattle.normal.specs.Words.{kind_at}
 use Rattle.normal.proofs.BytesLaws.{bytes-frames, bytes-kind}
 use Rattle.normal.specs.PlaceLaws.{Says, nothing, reads, denies, joins, binds, Frames, Written, formula_at, Places, Every, Below}
 use Rattle.normal.proofs.PlaceLaws.{none_written, place-places, place-every, formula_once}
 use Rattle.normal.proofs.FormulaLaws.{every-part, all-below, root-last}
-use Rattle.normal.specs.Few.{Apart}
 use Rattle.normal.proofs.Few.{apart-few, chosen}
 
 -- ---- the frames of the sheet

@@ -1,18 +1,18 @@
 -- Placing a formula among frames: what is there stays, the frame placed has the formula, and a formula that is placed already changes nothing. Assumes
 -- nothing.
-use Rattle.std.specs.Prelude.{ℕ, zero, suc, ◌+◌, ◌≤◌, ◌<◌, ◌≡◌, Bool, true, false, cond, ◌⊎◌, List, [], ◌∷◌, ◌++◌, length, get_or, eqb, ltb}
+use Rattle.std.specs.Prelude.{ℕ, zero, suc, ◌+◌, ◌≤◌, ◌<◌, ◌≡◌, Bool, true, false, ◌⊎◌, List, [], ◌∷◌, ◌++◌, length, ltb}
 use Rattle.std.proofs.Common.{arith, sym, ap₂, ◌∙◌, subst, inl, inr, ⊎_elim, append-nil, append_assoc, length-append}
 use Rattle.std.proofs.Math.Path.{refl, ap}
 use Rattle.std.proofs.Math.ListN.{get_or-append}
 use Rattle.std.proofs.Math.Seq.{get_or-append_seam}
 use borrow.Author.Tests.{lt-ltb, le-ltb}
 use Rattle.words.specs.Logic.{tests}
-use Rattle.words.proofs.Logic.{by_bool, clash}
+use Rattle.words.proofs.Logic.{by_bool}
 use Rattle.formula.specs.Formula.{Formula, never, input, neg, gate, quant}
 use Rattle.sheet.specs.Frames.{build, tree, formula_of, Fit, OrderedBelow}
 use Rattle.sheet.proofs.Frames.{build-same, formula-below}
 use Rattle.sheet.specs.declared.Kind.{Kind}
-use Rattle.sheet.specs.declared.Kind.TheVariants.{Never, Input, Not, And, Or, Exists, Forall, Gauge}
+use Rattle.sheet.specs.declared.Kind.TheVariants.{Never, Not}
 use Rattle.normal.specs.Normal.{fields_of, same_fields, index, Placed, put, reading, gate_of, quant_of, place}
 use Rattle.normal.specs.Words.{kind_at}
 use Rattle.normal.proofs.BytesLaws.{fields-same, same_kind}

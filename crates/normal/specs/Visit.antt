@@ -1,6 +1,6 @@
 -- The way over a sheet's frames that places them: a stack of frames that wait, the frame on top for those that it names; the numbers that frames got; and
 -- what holds between two turns. Assumes nothing.
-use Rattle.std.specs.Prelude.{ℕ, zero, suc, ◌+◌, ◌*◌, ◌-◌, ◌≤◌, ◌<◌, ◌≡◌, Bool, cond, ◌⊎◌, List, [], ◌∷◌, length, get_or, set, eqb, ltb}
+use Rattle.std.specs.Prelude.{ℕ, zero, suc, ◌+◌, ◌*◌, ◌-◌, ◌≤◌, ◌<◌, ◌≡◌, cond, ◌⊎◌, List, [], ◌∷◌, length, get_or, set, eqb, ltb}
 use Rattle.sheet.specs.Fields.{Sheet, frames, variables}
 use Rattle.sheet.specs.Frames.{formula}
 use Rattle.sheet.specs.Keeps.{Keeps}

@@ -7,13 +7,13 @@ use mathlib.Core.List.{List, [], ◌∷◌, ◌++◌, map}
 use Rattle.words.specs.Logic.{tests}
 use Rattle.words.proofs.Logic.{by_bool}
 use Rattle.formula.specs.Assignment.{Assignment, join}
-use Rattle.formula.specs.Formula.{Formula, gate, truth, free}
+use Rattle.formula.specs.Formula.{Formula, truth, free}
 use Rattle.sheet.specs.Frames.{build, formula_of, Fit, OrderedBelow}
 use Rattle.sheet.proofs.Frames.{formula-below}
 use Rattle.sheet.specs.Rules.{binds}
 use Rattle.sheet.specs.declared.Kind.{Kind}
-use Rattle.sheet.specs.declared.Kind.TheVariants.{Input, Not, And, Or}
-use Rattle.prenex.specs.Question.{Every, every-none, every_one}
+use Rattle.sheet.specs.declared.Kind.TheVariants.{And, Or}
+use Rattle.prenex.specs.Question.{every-none, every_one}
 use Rattle.prenex.specs.Kinds.{variables, having, count, chain, chain_end}
 use Rattle.prenex.specs.SheetLaws.{Has}
 use Rattle.prenex.proofs.SheetLaws.{has_head, has_tail}

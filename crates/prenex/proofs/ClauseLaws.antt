@@ -1,5 +1,5 @@
 -- Clauses, step by step: codes, chains, the frames that are left to write and the frames that clauses end with. Assumes nothing.
-use Rattle.std.specs.Prelude.{ℕ, zero, suc, ◌+◌, ◌-◌, ◌*◌, ◌≤◌, ◌<◌, Bool, true, false, cond, List, [], ◌∷◌, map, ◌≡◌, eqb, length, get_or, drop, set}
+use Rattle.std.specs.Prelude.{ℕ, zero, suc, ◌+◌, ◌-◌, ◌*◌, ◌≤◌, ◌<◌, Bool, true, false, List, [], ◌∷◌, map, ◌≡◌, eqb, length, get_or, drop, set}
 use Rattle.std.proofs.Common.{add-zero, arith, sym, ap, ◌∙◌, length-drop, length-set, drop_of_length-le, drop-cons}
 use Rattle.std.proofs.Math.Nat.{add-suc, suc-add}
 use Rattle.std.proofs.Math.Numerals.{add-one}

@@ -4,7 +4,7 @@ use Rattle.std.proofs.Common.{arith}
 use Rattle.words.specs.Word.{bit}
 use Rattle.formula.specs.Assignment.{Assignment, assign, join, none, only}
 use Rattle.sheet.specs.declared.Kind.TheVariants.{Input, Not, And, Or, Exists, Forall}
-use Rattle.prenex.specs.Question.{Literal, Question, clause_truth, matrix_truth, over_atoms, under_blocks, question_truth}
+use Rattle.prenex.specs.Question.{clause_truth, matrix_truth, over_atoms, under_blocks, question_truth}
 use Rattle.prenex.specs.Question.{some_literal, some_clause, occurs, negated, member, all_atoms, every-none, every_one, distinct_none, distinct_one}
 use Rattle.prenex.specs.Question.{SomeBelow, innermost, outer, Proper, Contingent}
 use Rattle.prenex.specs.Kinds.{having, count, chain, chain_end, input_kinds, input_frame, negation_kinds, inputs, negations, frame_by, clause_kinds, clause_ends}

@@ -9,7 +9,6 @@ use Rattle.words.proofs.Logic.{by_bool, or_left, or_right, or_cases, and_both}
 use Rattle.formula.specs.Assignment.{Assignment, join}
 use Rattle.formula.specs.Formula.{input, neg, truth, free}
 use Rattle.sheet.specs.Frames.{build, formula_of, OrderedBelow}
-use Rattle.sheet.specs.Rules.{binds}
 use Rattle.sheet.specs.declared.Kind.{Kind}
 use Rattle.sheet.specs.declared.Kind.TheVariants.{Input, Not, And, Or}
 use Rattle.prenex.specs.Question.{Literal, Clause, literal_truth, clause_truth, matrix_truth, some_literal, some_clause, occurs, negated}

@@ -1,5 +1,5 @@
 -- The frames of the matrix, one part after the other: inputs, negations, clauses, their conjunction. Assumes nothing.
-use Rattle.std.specs.Prelude.{ℕ, zero, suc, ◌+◌, ◌*◌, ◌≤◌, Bool, List, ◌++◌, map, ◌≡◌, refl, length, take, drop}
+use Rattle.std.specs.Prelude.{ℕ, ◌+◌, ◌*◌, ◌≤◌, Bool, List, ◌++◌, map, ◌≡◌, refl, length, take, drop}
 use Rattle.std.proofs.Common.{zero-add, arith, sym, ap, ◌∙◌, length-append, take_at}
 use Rattle.std.proofs.lemmas.List.{length-map}
 use Rattle.std.proofs.lemmas.List.Edits.{sets}

@@ -1,6 +1,6 @@
 -- Clauses with a literal and its opposite, found by the words of the literals that are seen. Assumes nothing.
 use Rattle.std.specs.Prelude.{ℕ, ◌+◌, ◌^◌, ◌≤◌, ◌<◌, Bool, true, false, not, cond, ◌&&◌, ◌||◌, List, [], ◌∷◌, ◌≡◌, refl, eqb, length, get_or, drop}
-use Rattle.std.proofs.Common.{arith, sym, ap, ◌∙◌, drop_of_length-le, eq-eqb, ne_eqb, eqb-true}
+use Rattle.std.proofs.Common.{arith, sym, ◌∙◌, drop_of_length-le, eq-eqb, ne_eqb, eqb-true}
 use Rattle.std.proofs.Math.Bool.{or-false, or_assoc}
 use Rattle.std.specs.Int.Bits.{bit_and, bit_or}
 use Rattle.words.proofs.Logic.{by_bool, clash, and_both, and_intro, or_cases, or_left, or_right}

@@ -13,7 +13,6 @@ use Rattle.sheet.specs.Frames.{build, formula_of, Fit, OrderedBelow}
 use Rattle.sheet.proofs.Frames.{formula-below}
 use Rattle.sheet.specs.Rules.{binds}
 use Rattle.sheet.specs.declared.Kind.{Kind}
-use Rattle.sheet.specs.declared.Kind.TheVariants.{Never, Input, Not, And, Or, Exists, Forall, Gauge}
 use Rattle.prenex.specs.Question.{Block, over_atoms, under_blocks, member, all_atoms, quantified}
 use Rattle.prenex.specs.Question.{Every, every-none, every_one, Distinct, distinct_one}
 use Rattle.prenex.specs.Kinds.{variables, Run, runs, quantifier, run_kinds, block_kinds}

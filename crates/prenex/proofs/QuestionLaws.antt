@@ -7,12 +7,11 @@ use mathlib.Core.List.Memᴰ
 use mathlib.Core.List.{List, [], ◌∷◌, Memᴰ}
 use Rattle.words.specs.Logic.{tests}
 use Rattle.words.proofs.Logic.{by_bool, clash}
-use Rattle.formula.specs.Assignment.{Assignment}
-use Rattle.formula.specs.Formula.{truth, free}
+use Rattle.formula.specs.Formula.{free}
 use Rattle.sheet.specs.Fields.{Sheet, narrow, frames, kind}
 use Rattle.sheet.specs.Frames.{formula, Fit, Ordered, OrderedBelow}
 use Rattle.sheet.proofs.Frames.{kind-past}
-use Rattle.sheet.specs.Rules.{last, used, names, binds, gauges}
+use Rattle.sheet.specs.Rules.{used, names}
 use Rattle.sheet.proofs.Gauges.{no-gauges}
 use Rattle.sheet.specs.Keeps.{Quantifies, Reads, Keeps}
 use Rattle.sheet.specs.declared.Kind.{Kind}

@@ -1,5 +1,5 @@
 -- The runs of a predicate: they ascend, do not overlap, and have exactly its variables below 32. Assumes nothing.
-use Rattle.std.specs.Prelude.{ℕ, zero, suc, ◌+◌, ◌-◌, ◌≤◌, ◌<◌, ◌≡◌, refl, Bool, true, false, ◌&&◌, ◌||◌, List, [], ◌∷◌, ◌++◌, eqb, leb, ltb}
+use Rattle.std.specs.Prelude.{ℕ, zero, suc, ◌+◌, ◌-◌, ◌≤◌, ◌<◌, ◌≡◌, refl, Bool, true, false, ◌&&◌, ◌||◌, List, [], ◌++◌, eqb, leb, ltb}
 use Rattle.std.proofs.Common.{le_trans, zero-add, arith, sym, ◌∙◌, ap, append-nil, leb-true, ltb-true, eqb-true, le-leb, lt-ltb}
 use Rattle.std.proofs.Math.Nat.{suc-sub-suc}
 use Rattle.std.proofs.Math.Bool.{and-false}

@@ -8,7 +8,6 @@ use Rattle.form.specs.declared.Form.TheVariants.{Narrow}
 use Rattle.sheet.specs.Fields.{narrow, frames, laid, fields_at, kind_of, kind}
 use Rattle.sheet.proofs.FieldsLaws.{fields-at}
 use Rattle.sheet.proofs.Frames.{kind-past}
-use Rattle.sheet.specs.declared.Fields.{Fields}
 use Rattle.sheet.specs.declared.Kind.{Kind}
 use Rattle.sheet.specs.declared.Kind.TheVariants.{Never, Input, Not, And, Or, Exists, Forall, Gauge}
 use Rattle.prenex.specs.Kinds.{frame_bytes, sheet_bytes}

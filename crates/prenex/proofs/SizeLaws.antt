@@ -7,12 +7,11 @@ use Rattle.std.proofs.Math.Path.{refl, ap}
 use Rattle.std.proofs.Math.ListN.{length, length-map}
 use Rattle.words.specs.Logic.{tests}
 use Rattle.words.proofs.Logic.{by_bool, clash}
-use Rattle.sheet.specs.declared.Kind.{Kind}
 use Rattle.sheet.specs.declared.Kind.TheVariants.{Input, And, Or}
 use Rattle.prenex.specs.Question.{Literal, Block, Clause, Question, some_literal, some_clause, occurs, member}
 use Rattle.prenex.specs.Question.{Every, every-none, every_one, SomeBelow, Proper}
 use Rattle.prenex.specs.Kinds.{variables, having, chain, input_kinds, negation_kinds, inputs, negations, literal_frame, literal_kinds, clause_kinds, clause_ends}
-use Rattle.prenex.specs.Kinds.{conjunction_kinds, disjunction_kinds, matrix_kinds, Run, ended, runs_from, runs, run_kinds, block_kinds, kinds}
+use Rattle.prenex.specs.Kinds.{conjunction_kinds, disjunction_kinds, matrix_kinds, ended, runs_from, runs, run_kinds, block_kinds, kinds}
 use Rattle.prenex.specs.Code.{literals}
 use Rattle.prenex.proofs.CodeLaws.{clauses-literals}
 use Rattle.prenex.proofs.CountLaws.{having-length, count_less}

@@ -1,21 +1,13 @@
 -- Frames that name earlier ones: those of the numbers with a property, and chains of gates with what they mean. Assumes nothing.
-use Rattle.std.specs.Prelude.{ℕ, zero, suc, ◌+◌, ◌≤◌, ◌<◌, ◌≡◌, refl, Bool, true, false, not, ◌||◌, eqb, length}
-use Rattle.std.proofs.Common.{add-zero, add-suc, suc-add, arith, ◌∙◌}
-use Rattle.std.proofs.Math.Path.{sym, ap}
-use Rattle.std.proofs.Math.Bool.{or-false, or_assoc}
-use mathlib.Core.List.{List, [], ◌∷◌, ◌++◌, map}
-use Rattle.words.specs.Logic.{tests}
-use Rattle.words.proofs.Logic.{by_bool}
+use Rattle.std.specs.Prelude.{ℕ, suc, ◌<◌, ◌≡◌, Bool, false, not, ◌||◌}
+use mathlib.Core.List.{List, [], ◌∷◌}
 use Rattle.formula.specs.Assignment.{Assignment, join}
 use Rattle.formula.specs.Formula.{Formula, gate, truth, free}
-use Rattle.sheet.specs.Frames.{build, formula_of, Fit, OrderedBelow}
-use Rattle.sheet.proofs.Frames.{formula-below}
-use Rattle.sheet.specs.Rules.{binds}
+use Rattle.sheet.specs.Frames.{build}
 use Rattle.sheet.specs.declared.Kind.{Kind}
 use Rattle.sheet.specs.declared.Kind.TheVariants.{Input, Not, And, Or}
-use Rattle.prenex.specs.Question.{Every, every-none, every_one}
-use Rattle.prenex.specs.Kinds.{variables, having, count, chain, chain_end}
-use Rattle.prenex.specs.SheetLaws.{Has}
+use Rattle.prenex.specs.Question.{Every}
+use Rattle.prenex.specs.Kinds.{variables}
 
 -- ---- frames that name earlier ones, and none of them a quantifier or never
 

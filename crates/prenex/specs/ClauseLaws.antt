@@ -1,21 +1,12 @@
 -- Clauses, step by step: codes, chains, the frames that are left to write and the frames that clauses end with. Assumes nothing.
-use Rattle.std.specs.Prelude.{ℕ, zero, suc, ◌+◌, ◌-◌, ◌*◌, ◌≤◌, ◌<◌, Bool, true, false, cond, List, [], ◌∷◌, map, ◌≡◌, eqb, length, get_or, drop, set}
-use Rattle.std.proofs.Common.{add-zero, arith, sym, ap, ◌∙◌, length-drop, length-set, drop_of_length-le, drop-cons}
-use Rattle.std.proofs.Math.Nat.{add-suc, suc-add}
-use Rattle.std.proofs.Math.Numerals.{add-one}
-use Rattle.std.proofs.Math.Path.{refl}
-use Rattle.std.proofs.lemmas.List.{length-map}
+use Rattle.std.specs.Prelude.{ℕ, ◌+◌, ◌-◌, ◌*◌, ◌≤◌, ◌<◌, Bool, false, cond, List, ◌∷◌, ◌≡◌, length, drop}
 use Rattle.std.proofs.lemmas.List.Edits.{sets}
-use Rattle.std.proofs.Math.Seq.{length-sets}
-use borrow.Author.Tests.{ne_eqb}
-use Rattle.words.proofs.Logic.{by_bool, clash}
 use Rattle.sheet.specs.declared.Kind.{Kind}
-use Rattle.sheet.specs.declared.Kind.TheVariants.{And, Or}
-use Rattle.prenex.specs.declared.clause.Link.{Link}
-use Rattle.prenex.specs.Question.{Literal, Clause, Every, every-none, every_one}
-use Rattle.prenex.specs.Kinds.{variables, count, chain, chain_end, frame_by, clause_kinds, clause_ends, conjunction_kinds, frame_bytes, sheet_bytes}
-use Rattle.prenex.specs.Code.{literal_of, to_first, clauses_of, kinds_within, ends_within}
-use Rattle.prenex.specs.Writing.{Linked, Members, Clauses}
+use Rattle.sheet.specs.declared.Kind.TheVariants.{And}
+use Rattle.prenex.specs.Question.{Literal, Clause, Every}
+use Rattle.prenex.specs.Kinds.{chain, clause_kinds, clause_ends, conjunction_kinds, sheet_bytes}
+use Rattle.prenex.specs.Code.{clauses_of, kinds_within, ends_within}
+use Rattle.prenex.specs.Writing.{Members}
 
 -- one clause or more
 pub record Some (cs : List Clause) : Type 0 where

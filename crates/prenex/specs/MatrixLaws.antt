@@ -1,26 +1,17 @@
 -- The frames of a question's clauses: they name earlier frames only, and the last one has the truth and the variables of the clauses. Assumes nothing.
-use Rattle.std.specs.Prelude.{ℕ, suc, ◌+◌, ◌-◌, ◌≤◌, ◌<◌, ◌≡◌, Bool, eqb}
-use Rattle.std.proofs.Common.{zero-add, arith, sym, ap, ◌∙◌, length-append, eq-eqb}
-use Rattle.std.proofs.Math.Path.{refl, ap₂}
-use Rattle.std.proofs.Math.Bool.{true, false, ◌&&◌, ◌||◌, or-false}
-use mathlib.Core.List.{List, [], ◌∷◌, ◌++◌, map}
-use Rattle.std.proofs.Math.ListN.{length, length-map}
-use Rattle.words.proofs.Logic.{by_bool, or_left, or_right, or_cases, and_both}
-use Rattle.formula.specs.Assignment.{Assignment, join}
-use Rattle.formula.specs.Formula.{input, neg, truth, free}
-use Rattle.sheet.specs.Frames.{build, formula_of, OrderedBelow}
+use Rattle.std.specs.Prelude.{ℕ, ◌-◌, ◌≤◌, ◌<◌, ◌≡◌}
+use Rattle.std.proofs.Math.Bool.{false}
+use mathlib.Core.List.{List}
+use Rattle.std.proofs.Math.ListN.{length}
+use Rattle.formula.specs.Assignment.{Assignment}
+use Rattle.formula.specs.Formula.{truth, free}
+use Rattle.sheet.specs.Frames.{formula_of, OrderedBelow}
 use Rattle.sheet.specs.Rules.{binds}
 use Rattle.sheet.specs.declared.Kind.{Kind}
-use Rattle.sheet.specs.declared.Kind.TheVariants.{Input, Not, And, Or}
-use Rattle.prenex.specs.Question.{Literal, Clause, literal_truth, clause_truth, matrix_truth, some_literal, some_clause, occurs, negated}
-use Rattle.prenex.specs.Question.{Every, every-none, every_one, SomeBelow}
-use Rattle.prenex.specs.Kinds.{variables, having, count, chain, chain_end, input_kinds, input_frame, negation_kinds, inputs, negations, frame_by, literal_frame}
-use Rattle.prenex.specs.Kinds.{clause_kinds, clause_ends, conjunction_kinds, literal_kinds, disjunction_kinds, matrix_kinds}
-use Rattle.prenex.specs.SheetLaws.{Has}
-use Rattle.prenex.specs.ChainLaws.{Plain, plain-input, plain-not, plain-and, plain-or}
-use Rattle.prenex.specs.ChainLaws.{Plains, plains_none}
-use Rattle.prenex.specs.ChainLaws.{Below}
-use Rattle.prenex.specs.ChainLaws.{joined, free_in}
+use Rattle.prenex.specs.Question.{Clause, matrix_truth, occurs}
+use Rattle.prenex.specs.Kinds.{variables}
+use Rattle.prenex.specs.Kinds.{matrix_kinds}
+use Rattle.prenex.specs.ChainLaws.{Plain}
 
 -- ---- the matrix
 

@@ -1,25 +1,15 @@
 -- The prefix: a block quantifies over the same assignments as the tower of its runs, and the frames of the blocks mean the prefix. Assumes nothing.
-use Rattle.std.specs.Prelude.{ℕ, suc, ◌+◌, ◌-◌, ◌≤◌, ◌<◌, ◌≡◌, refl, Bool, true, false, not, cond, ◌&&◌, ◌||◌, List, [], ◌∷◌, ◌++◌, eqb, ltb, length}
-use Rattle.std.proofs.Common.{arith, sym, ◌∙◌, ap, length-append, eqb-true, lt-ltb}
-use Rattle.std.proofs.Math.Path.{fun_ext, subst⁻¹}
-use Rattle.std.proofs.Math.Bool.{and-false, and-true, or_comm, or_assoc}
-use Rattle.words.specs.Logic.{tests}
-use Rattle.words.proofs.Logic.{by_bool, clash, or_cases, or_left, or_right, or-false}
-use Rattle.formula.specs.Assignment.{Assignment, within, sweep, none, union, minus}
-use Rattle.formula.proofs.Assignment.{within-suc, within-zero}
-use Rattle.formula.proofs.Assignment.{by_value, differ, sweep_finds, sweep_meets}
-use Rattle.formula.specs.Formula.{Formula, quant, truth, free}
-use Rattle.sheet.specs.Frames.{build, formula_of, Fit, OrderedBelow}
-use Rattle.sheet.proofs.Frames.{formula-below}
+use Rattle.std.specs.Prelude.{ℕ, ◌-◌, ◌≤◌, ◌<◌, ◌≡◌, Bool, true, false, List, [], ◌∷◌}
+use Rattle.formula.specs.Assignment.{Assignment, sweep}
+use Rattle.formula.specs.Formula.{truth, free}
+use Rattle.sheet.specs.Frames.{formula_of, OrderedBelow}
 use Rattle.sheet.specs.Rules.{binds}
 use Rattle.sheet.specs.declared.Kind.{Kind}
 use Rattle.sheet.specs.declared.Kind.TheVariants.{Never, Input, Not, And, Or, Exists, Forall, Gauge}
-use Rattle.prenex.specs.Question.{Block, over_atoms, under_blocks, member, all_atoms, quantified}
-use Rattle.prenex.specs.Question.{Every, every-none, every_one, Distinct, distinct_one}
-use Rattle.prenex.specs.Kinds.{variables, Run, runs, quantifier, run_kinds, block_kinds}
-use Rattle.prenex.specs.SheetLaws.{Has}
+use Rattle.prenex.specs.Question.{Block}
+use Rattle.prenex.specs.Question.{Every}
+use Rattle.prenex.specs.Kinds.{variables, Run}
 use Rattle.prenex.specs.ChainLaws.{Below}
-use Rattle.prenex.specs.RunLaws.{Ascending, no_run, next-run, in_runs}
 
 -- ---- quantifying over a set of variables
 

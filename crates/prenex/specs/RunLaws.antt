@@ -1,13 +1,7 @@
 -- The runs of a predicate: they ascend, do not overlap, and have exactly its variables below 32. Assumes nothing.
-use Rattle.std.specs.Prelude.{ℕ, zero, suc, ◌+◌, ◌-◌, ◌≤◌, ◌<◌, ◌≡◌, refl, Bool, true, false, ◌&&◌, ◌||◌, List, [], ◌∷◌, ◌++◌, eqb, leb, ltb}
-use Rattle.std.proofs.Common.{le_trans, zero-add, arith, sym, ◌∙◌, ap, append-nil, leb-true, ltb-true, eqb-true, le-leb, lt-ltb}
-use Rattle.std.proofs.Math.Nat.{suc-sub-suc}
-use Rattle.std.proofs.Math.Bool.{and-false}
-use Rattle.words.specs.Logic.{tests}
-use Rattle.words.proofs.Logic.{by_bool, clash, same_test, and_both, or_cases, or_left, or_right}
+use Rattle.std.specs.Prelude.{ℕ, suc, ◌+◌, ◌≤◌, Bool, false, ◌||◌, List, [], ◌∷◌}
 use Rattle.formula.specs.Assignment.{within}
-use Rattle.formula.proofs.Assignment.{within-zero, within-suc}
-use Rattle.prenex.specs.Kinds.{variables, Run, ended, runs_from, runs}
+use Rattle.prenex.specs.Kinds.{Run}
 
 -- ---- order
 

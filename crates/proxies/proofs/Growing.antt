@@ -1,12 +1,8 @@
 -- What a search over a net does to the tables of records: they grow, and whatever formulas of the frames they were true of, they still are. The net is faithful to
 -- these, the sheet's, so that a search need not know them. Assumes nothing.
 use Rattle.std.specs.Prelude.{ℕ, List}
-use Rattle.formula.specs.Formula.{Formula}
-use Rattle.records.specs.Table.{Grown}
 use Rattle.records.proofs.Table.{grown_refl, grown_trans}
-use Rattle.records.specs.Both.{Tables}
-use Rattle.net.specs.Layout.{net_form, frames_of}
-use Rattle.net.specs.Sheet.{Faithful}
+use Rattle.net.specs.Layout.{net_form}
 use Rattle.proxies.specs.Growing.{Growing}
 
 pub growing_same : {net u : List ℕ} {cu : ℕ} {o : List ℕ} {co : ℕ} → Growing net u cu o co u cu o co

@@ -1,31 +1,27 @@
 -- Source 000's L and L' and the search, from what the code ensures. What a record says of a child is the only value that L leaves to its proxy
 -- (`recorded_leaves`), L excludes no candidate that has the truth that is looked for (`true_in_L`), and one that is found satisfies L' where every
 -- child's value is known (`found`). Assumes nothing.
-use Rattle.std.specs.Prelude.{ℕ, ◌+◌, ◌-◌, ◌≤◌, ◌<◌, ◌≡◌, refl, Bool, true, false, cond, ◌⊎◌, List, length, ltb}
-use Rattle.std.proofs.Common.{arith, ◌∙◌, ap₂, inl, inr, lt-ltb, le-ltb, ltb-true}
+use Rattle.std.specs.Prelude.{ℕ, ◌+◌, ◌-◌, ◌≤◌, ◌<◌, ◌≡◌, refl, Bool, true, false, List, length}
+use Rattle.std.proofs.Common.{arith, ◌∙◌, ap₂, inl, inr, lt-ltb, le-ltb}
 use Rattle.std.proofs.Math.Path.{sym, ap}
 use Rattle.std.proofs.Math.Bool.{not}
 use Rattle.words.specs.Logic.{tests}
-use Rattle.words.proofs.Logic.{by_bool, clash}
+use Rattle.words.proofs.Logic.{clash}
 use Rattle.words.specs.Word.{bit}
-use Rattle.words.proofs.Mask.{bits_sub, agree-bits}
-use Rattle.formula.specs.Assignment.{Assignment, join}
+use Rattle.formula.specs.Assignment.{join}
 use Rattle.formula.specs.Formula.{Formula, truth, free}
 use Rattle.formula.proofs.Reason.{explains_truth}
-use Rattle.form.specs.Form.{room, variables}
+use Rattle.form.specs.Form.{room}
 use Rattle.form.proofs.FormLaws.{few-variables}
-use Rattle.form.specs.declared.Form.{Form}
-use Rattle.records.specs.Table.{Valid, mask_at, values_at, matches, Kept}
-use Rattle.records.proofs.Table.{matches-all, kept_grown}
+use Rattle.records.specs.Table.{Valid, Kept}
+use Rattle.records.proofs.Table.{kept_grown}
 use Rattle.records.specs.Both.{Tables}
 use Rattle.net.specs.Net.{Node, Fixed, Reads, Flips, Joins, Binds, Fit, Ordered, Ranged, fit_at, at_fixed, at_reads, at_flips, at-joins, upward}
 use Rattle.net.specs.Stands.{stands-sym, explains_stands}
 use Rattle.net.specs.Sheet.{Faithful}
 use Rattle.net.specs.Layout.{net_form, frames_of, packed, changed, formula_at, Ground, val, ground_ranged, ground_bounded}
-use Rattle.proxies.specs.Kept.{all, low_word, RecordAt, RecordedNode}
+use Rattle.proxies.specs.Kept.{all, low_word}
 use Rattle.proxies.specs.Growing.{Growing}
-use Rattle.imply.specs.Posed.{Covers}
-use Rattle.proxies.specs.KeptLaws.{bit-all, low_bit, recorded_told}
 use Rattle.proxies.specs.Lookahead.{proxy, proxied, body, Agreeing, Allowed, L, L', Settled}
 use Rattle.proxies.specs.LookaheadLaws.{completed, matching}
 

@@ -3,7 +3,6 @@
 use Rattle.std.specs.Prelude.{ℕ, List}
 use Rattle.formula.specs.Formula.{Formula}
 use Rattle.records.specs.Table.{Grown}
-use Rattle.records.proofs.Table.{grown_refl, grown_trans}
 use Rattle.records.specs.Both.{Tables}
 use Rattle.net.specs.Layout.{net_form, frames_of}
 use Rattle.net.specs.Sheet.{Faithful}

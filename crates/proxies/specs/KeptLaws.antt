@@ -1,36 +1,28 @@
 -- What is kept is true of its node, and what is kept of a node tells its value. Assumes nothing.
 use Rattle.std.specs.Prelude.{ℕ, ◌-◌, ◌%◌, ◌<◌, ◌^◌, ◌≡◌, Bool, true, false, ◌&&◌, ◌⊎◌, List, ltb}
-use Rattle.std.proofs.Common.{mod-eq_of_lt, lt_of_le_of_lt, arith, sym, ◌∙◌, ap, inl, inr, lt-ltb}
+use Rattle.std.proofs.Common.{arith, sym, ◌∙◌, ap, inl, inr, lt-ltb}
 use Rattle.std.proofs.Math.Bool.{and-true}
-use Rattle.std.specs.Int.Bits.{bit_and}
 use Rattle.std.proofs.lemmas.Nat.{and_mask}
 use Rattle.words.specs.Word.{bit}
 use Rattle.words.proofs.Word.{bit-and, bit-ones}
-use Rattle.words.proofs.Mask.{sub-bits, sub-le, sub-lt, and-sub, inside-sub, bits_masked}
+use Rattle.words.proofs.Mask.{sub-bits}
 use Rattle.formula.specs.Formula.{Formula}
 use Rattle.formula.specs.Ask.{Bounded}
-use Rattle.formula.proofs.Ask.{free_mask-lt}
 use Rattle.formula.specs.Reason.{Explains}
 use Rattle.formula.proofs.Reason.{explains_set}
-use Rattle.formula.proofs.ReasonWord.{word-values, word-sub}
-use Rattle.form.specs.Form.{variables, word_end}
+use Rattle.form.specs.Form.{variables}
 use Rattle.form.proofs.FormLaws.{end_power}
 use Rattle.form.specs.declared.Form.{Form}
-use Rattle.form.specs.declared.Form.TheVariants.{Narrow, Wide}
-use Rattle.records.specs.Table.{Valid, Kept, mask_at, matches}
-use Rattle.records.proofs.Table.{matches-all, matches_explains, grown_refl}
+use Rattle.records.specs.Table.{Valid, mask_at, matches}
+use Rattle.records.proofs.Table.{matches-all, matches_explains}
 use Rattle.records.specs.Search.{FirstBelow}
-use Rattle.records.specs.Put.{Put}
-use Rattle.records.proofs.PutLaws.{valid_put, kept_put}
 use Rattle.records.specs.Both.{Tables}
-use Rattle.records.proofs.LocateLaws.{inside-all}
 use Rattle.net.specs.Layout.{net_form, frames_of, changed, formula_at, Ground, val, ground_formed}
-use Rattle.net.specs.Stands.{Stands, stands-sym, explains_stands}
+use Rattle.net.specs.Stands.{stands-sym, explains_stands}
 use Rattle.net.specs.Sheet.{Faithful}
 use Rattle.proxies.specs.Kept.{all, low_word, RecordAt, RecordedNode, Noted}
 use Rattle.imply.specs.Posed.{Covers}
 use Rattle.proxies.specs.Told.{Told}
-use Rattle.proxies.specs.Growing.{Growing}
 
 pub told_of : {net : List ℕ} {m w i v r : ℕ} → Covers net i m → 0 < v → v < 3 → Explains (formula_at net i) (val v) (bit r) (bit w) → Told net m w i v r
 told_of {m = m} {r = r} c s l e = record {

@@ -1,30 +1,29 @@
 -- The frames of a question, from its fields through the two arrays: the laws that `build` goes by. Assumes nothing.
-use Rattle.std.specs.Prelude.{ℕ, ◌+◌, ◌*◌, ◌≤◌, ◌<◌, Bool, true, false, ◌≡◌, refl, length, take, drop}
+use Rattle.std.specs.Prelude.{ℕ, ◌+◌, ◌*◌, ◌≤◌, ◌<◌, true, false, ◌≡◌, length, take, drop}
 use Rattle.std.proofs.Common.{zero-add, arith, sym, subst, ◌∙◌, length-append, take_at}
-use mathlib.Core.List.{List, [], ◌∷◌, ◌++◌, append_assoc}
+use mathlib.Core.List.{List, ◌++◌, append_assoc}
 use Rattle.std.proofs.Math.Path.{ap}
 use Rattle.std.proofs.Math.Seq.{sets, length-sets}
 use Rattle.words.proofs.Logic.{clash}
 use Rattle.words.proofs.Stores.{sets-start}
 use Rattle.sheet.specs.declared.Kind.{Kind}
 use Rattle.prenex.specs.Question.{Question, Proper, Contingent}
-use Rattle.prenex.specs.Kinds.{kinds, matrix_kinds, block_kinds, sheet_bytes, sheet_of}
-use Rattle.prenex.specs.Code.{Codes, clauses_of, codes_of, literals, word_kinds}
+use Rattle.prenex.specs.Kinds.{kinds, matrix_kinds, sheet_bytes, sheet_of}
+use Rattle.prenex.specs.Code.{Codes, clauses_of, codes_of, word_kinds}
 use Rattle.prenex.proofs.Every.{every_some}
 use Rattle.prenex.specs.CodeLaws.{Words}
 use Rattle.prenex.proofs.CodeLaws.{clauses_codes, codes_length, clauses-literals, words_length, words_kinds}
-use Rattle.prenex.specs.CodeLaws as Encoded
 use Rattle.prenex.proofs.CodeLaws as EncodedLaws
 use Rattle.prenex.proofs.SheetLaws.{sheet-length, sheet_append, sheet_has}
 use Rattle.prenex.proofs.StoreLaws.{store_append}
-use Rattle.prenex.proofs.SizeLaws.{many_literals, many_blocks, kinds-length}
+use Rattle.prenex.proofs.SizeLaws.{many_literals, many_blocks}
 use Rattle.prenex.proofs.MatrixLaws.{matrix-stands}
 use Rattle.prenex.proofs.QuestionLaws.{clauses-below}
 use Rattle.dimacs.specs.Page.{page}
 use Rattle.dimacs.specs.Row.{header, codes_from, words_from}
 use Rattle.dimacs.proofs.RowLaws.{codes_page, words_page}
 use Rattle.dimacs.specs.declared.token.Token.{Token}
-use Rattle.qdimacs.specs.Reading.{Arranged, Arrays, Builds}
+use Rattle.qdimacs.specs.Reading.{Arranged, Builds}
 use Rattle.qdimacs.specs.MatrixAsked.{Matrix, Judged}
 use Rattle.qdimacs.specs.declared.build.Built.{Built}
 

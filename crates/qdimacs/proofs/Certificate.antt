@@ -1,13 +1,13 @@
 -- Reading a question, for every text and buffer: theorems about every call that meets `read`'s contract. Assumes nothing.
-use Rattle.std.specs.Prelude.{ℕ, ◌≤◌, ◌<◌, List, ◌++◌, ◌↔◌, ◌≡◌, refl, length, drop}
-use Rattle.std.proofs.Common.{arith, inl, inr, sym, ap, subst, ◌∙◌}
+use Rattle.std.specs.Prelude.{ℕ, List, ◌++◌, ◌↔◌, ◌≡◌, refl, length, drop}
+use Rattle.std.proofs.Common.{arith, inl, inr, ap, subst}
 use Rattle.prenex.specs.Question.{Question, Contingent}
 use Rattle.prenex.specs.Kinds.{sheet_of}
 use Rattle.prenex.specs.QuestionLaws.{SheetOf}
 use Rattle.prenex.proofs.QuestionLaws.{question_sheet}
-use Rattle.dimacs.specs.Page.{Written, WellFormed}
+use Rattle.dimacs.specs.Page.{Written}
 use Rattle.dimacs.proofs.OneQuestion.{written_one}
-use Rattle.qdimacs.specs.Reading.{sheet_room, Large, Small, Read, short, malformed, large, settled, accepted}
+use Rattle.qdimacs.specs.Reading.{Large, Small, Read, short, malformed, large, settled, accepted}
 use Rattle.qdimacs.specs.Certificate.{Acceptable}
 
 small_large : {q : Question} → Small q → Large q → ⊥

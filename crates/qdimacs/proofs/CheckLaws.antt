@@ -1,6 +1,6 @@
 -- A text is well formed exactly if its fields have the shape and its atoms are proper: the laws that `check` goes by. Assumes nothing.
-use Rattle.std.specs.Prelude.{ℕ, ◌≤◌, ◌<◌, true, false, List, [], ◌∷◌, ◌≡◌, length, drop}
-use Rattle.std.proofs.Common.{arith, sym, ap, subst, ◌∙◌}
+use Rattle.std.specs.Prelude.{ℕ, ◌≤◌, true, false, List, [], ◌∷◌, ◌≡◌, length, drop}
+use Rattle.std.proofs.Common.{arith, sym, ap, ◌∙◌}
 use Rattle.words.proofs.Logic.{clash}
 use Rattle.prenex.specs.Question.{Question, Literal, Clause, Proper, Every, every_one, SomeBelow}
 use Rattle.prenex.proofs.Every.{every_first}

@@ -1,5 +1,5 @@
 -- Whether the matrix of a question is neither always true nor always false, as its codes and one question to the solver tell. Assumes nothing.
-use Rattle.std.specs.Prelude.{ℕ, ◌≤◌, Bool, true, false, List, ◌≡◌, length}
+use Rattle.std.specs.Prelude.{ℕ, Bool, true, false, List, ◌≡◌}
 use Rattle.std.proofs.Common.{sym, ap, subst, ◌∙◌}
 use Rattle.words.proofs.Logic.{clash}
 use Rattle.words.specs.Word.{bit}
@@ -16,11 +16,11 @@ use Rattle.records.proofs.Both.{tables_none}
 use Rattle.net.specs.Layout.{free_of}
 use Rattle.net.specs.Sheet.{Checked, NetOf, checked_net}
 use Rattle.solver.specs.Contract.{last, root, Ready, verdict_of, Same}
-use Rattle.prenex.specs.Question.{Clause, matrix_truth, occurs, Contingent}
+use Rattle.prenex.specs.Question.{Clause, matrix_truth, occurs}
 use Rattle.prenex.specs.Kinds.{matrix_kinds, sheet_bytes}
-use Rattle.prenex.specs.Code.{Codes, clauses_of, all_opposed}
+use Rattle.prenex.specs.Code.{clauses_of, all_opposed}
 use Rattle.prenex.proofs.Opposed.{opposed-true, unopposed_false}
-use Rattle.prenex.specs.QuestionLaws.{ClausesBelow, SheetOfMatrix}
+use Rattle.prenex.specs.QuestionLaws.{SheetOfMatrix}
 use Rattle.prenex.proofs.QuestionLaws.{matrix-sheet}
 use Rattle.qdimacs.specs.MatrixAsked.{Judged, Matrix}
 

@@ -1,14 +1,14 @@
 -- From what the check and the frames tell to what reading gives: the laws that `read` goes by. Assumes nothing.
-use Rattle.std.specs.Prelude.{ℕ, ◌*◌, ◌≤◌, ◌<◌, Bool, true, false, List, ◌++◌, ◌≡◌, refl, length, take, drop}
-use Rattle.std.proofs.Common.{arith, inl, inr, subst, ◌∙◌, take_at}
+use Rattle.std.specs.Prelude.{ℕ, ◌*◌, ◌≤◌, ◌<◌, true, false, List, ◌++◌, ◌≡◌, length, take, drop}
+use Rattle.std.proofs.Common.{arith, inl, inr, ◌∙◌, take_at}
 use Rattle.std.proofs.Math.Path.{sym, ap}
 use Rattle.sheet.specs.Refusal as Number
-use Rattle.prenex.specs.Question.{Question, Proper, Contingent}
+use Rattle.prenex.specs.Question.{Question}
 use Rattle.prenex.specs.Kinds.{kinds, sheet_of}
 use Rattle.prenex.proofs.SheetLaws.{sheet-length}
-use Rattle.dimacs.specs.Token.{behind_comments, tokens}
-use Rattle.dimacs.specs.Page.{page, Written, WellFormed}
-use Rattle.qdimacs.specs.Reading.{sheet_room, Small, Read, short, malformed, large, settled, accepted, Headed, ill, well, Asked, Builds}
+use Rattle.dimacs.specs.Token.{tokens}
+use Rattle.dimacs.specs.Page.{WellFormed}
+use Rattle.qdimacs.specs.Reading.{sheet_room, Read, short, malformed, large, settled, accepted, Headed, ill, well, Asked, Builds}
 use Rattle.qdimacs.proofs.CheckLaws.{some-variable}
 use Rattle.qdimacs.specs.declared.check.Header.{Header}
 use Rattle.qdimacs.specs.declared.build.Built.{Built}

@@ -1,13 +1,8 @@
 -- Reading a question, for every text and buffer: theorems about every call that meets `read`'s contract. Assumes nothing.
-use Rattle.std.specs.Prelude.{ℕ, ◌≤◌, ◌<◌, List, ◌++◌, ◌↔◌, ◌≡◌, refl, length, drop}
-use Rattle.std.proofs.Common.{arith, inl, inr, sym, ap, subst, ◌∙◌}
+use Rattle.std.specs.Prelude.{ℕ, ◌≤◌, List, length}
 use Rattle.prenex.specs.Question.{Question, Contingent}
-use Rattle.prenex.specs.Kinds.{sheet_of}
-use Rattle.prenex.specs.QuestionLaws.{SheetOf}
-use Rattle.prenex.proofs.QuestionLaws.{question_sheet}
-use Rattle.dimacs.specs.Page.{Written, WellFormed}
-use Rattle.dimacs.proofs.OneQuestion.{written_one}
-use Rattle.qdimacs.specs.Reading.{sheet_room, Large, Small, Read, short, malformed, large, settled, accepted}
+use Rattle.dimacs.specs.Page.{Written}
+use Rattle.qdimacs.specs.Reading.{sheet_room, Small}
 
 -- a buffer with room, and the text of a question that is small enough and whose matrix is neither always true nor always false
 pub record Acceptable (text sheet : List ℕ) : Type 0 where

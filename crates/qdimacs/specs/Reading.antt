@@ -1,5 +1,5 @@
 -- What reading a text gives. Assumes nothing.
-use Rattle.std.specs.Prelude.{ℕ, ◌*◌, ◌≤◌, ◌<◌, Bool, true, false, List, [], ◌∷◌, ◌++◌, ◌⊎◌, ◌≡◌, length, drop}
+use Rattle.std.specs.Prelude.{ℕ, ◌≤◌, ◌<◌, true, false, List, ◌++◌, ◌⊎◌, ◌≡◌, length, drop}
 use Rattle.sheet.specs.Refusal as Number
 use Rattle.prenex.specs.Question.{Question, Proper, Contingent}
 use Rattle.prenex.specs.Kinds.{variables, most_frames, kinds, sheet_of}

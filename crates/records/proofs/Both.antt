@@ -2,7 +2,6 @@
 use Rattle.std.specs.Prelude.{ℕ, true, false, List}
 use Rattle.formula.specs.Formula.{Formula}
 use Rattle.form.specs.declared.Form.{Form}
-use Rattle.records.specs.Table.{Valid, Grown}
 use Rattle.records.proofs.Table.{valid_empty, grown_refl, grown_trans}
 use Rattle.records.specs.Both.{Tables, TablesGrown}
 

@@ -1,19 +1,16 @@
 -- What the record finder hands back: which record of which table, the numbers of that part, and its place. Assumes nothing.
-use Rattle.std.specs.Prelude.{◌≡◌, Bool, cond, ◌&&◌, ◌||◌, ◌⊎◌, List, [], ℕ, ◌+◌, ◌*◌, ◌<◌, ◌≤◌, length, eqb, ltb}
+use Rattle.std.specs.Prelude.{◌≡◌, Bool, List, ℕ, ◌<◌, ◌≤◌, length, ltb}
 use Rattle.std.proofs.Common.{◌∙◌, inl, inr, arith}
 use Rattle.std.specs.Borrow.{Bor}
 use borrow.Author.Tests.{lt-ltb, le-ltb}
 use Rattle.words.specs.Logic.{tests}
 use Rattle.words.proofs.Logic.{by_bool}
-use Rattle.words.specs.Mask.{agree}
 use Rattle.formula.specs.Least.{least}
 use Rattle.formula.proofs.Least.{least-hit, least_miss, least-is, least-none}
-use Rattle.form.specs.Form.{room, record_start}
+use Rattle.form.specs.Form.{room}
 use Rattle.form.specs.declared.Form.{Form}
 use Rattle.records.specs.declared.Hit.{Hit}
 use Rattle.records.specs.declared.Hit.TheVariants.{Under, Over, Neither}
-use Rattle.records.specs.Layout.{record_at}
-use Rattle.records.specs.Table.{frame_at, mask_at, values_at}
 use Rattle.records.specs.Search.{FirstBelow, NoneBelow}
 use Rattle.records.specs.Find.{Empty, Holding, Part, Says, agrees_at, first_at, hit, part_of, place_of}
 

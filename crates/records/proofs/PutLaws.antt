@@ -14,9 +14,9 @@ use Rattle.form.specs.Form.{room, record_numbers, record_start, word_end}
 use Rattle.form.proofs.FormLaws.{start-next, room_fits}
 use Rattle.words.proofs.Stores.{sets-before, sets_behind, sets-at}
 pub use Rattle.records.specs.Layout.{stored}
-use Rattle.records.specs.Layout.{numbers, number_at, Reads}
+use Rattle.records.specs.Layout.{numbers, number_at}
 use Rattle.records.proofs.LayoutLaws.{numbers-length, some-numbers, mask-same, values_same, frame_read, mask_read, values_read}
-use Rattle.records.specs.Table.{Holds, Valid, Grown, Kept}
+use Rattle.records.specs.Table.{Holds, Valid, Kept}
 use Rattle.records.proofs.Table.{all-matches, grown_refl, grown_holds}
 use Rattle.records.specs.Put.{Put}
 

@@ -1,8 +1,6 @@
 -- What a search of a table finds. Assumes nothing.
-use Rattle.std.specs.Prelude.{◌≡◌, Bool, true, false, List, ℕ, ◌<◌}
+use Rattle.std.specs.Prelude.{◌≡◌, Bool, List, ℕ}
 use Rattle.std.proofs.Common.{sym, ◌∙◌, inr}
-use Rattle.records.specs.declared.Found.{Found}
-use Rattle.records.specs.declared.Found.TheVariants.{At, Nothing}
 use Rattle.form.specs.declared.Form.{Form}
 use Rattle.records.specs.Table.{matches, Kept}
 use Rattle.records.specs.Search.{FirstBelow, NoneBelow}

@@ -1,5 +1,5 @@
 -- A table of records (frame, mask, values) in either form, of which the first `count` are kept. Assumes nothing.
-use Rattle.std.specs.Prelude.{◌≡◌, refl, ◌⊎◌, Bool, true, ◌&&◌, List, ℕ, ◌+◌, ◌<◌, ◌≤◌, length, get_or, eqb}
+use Rattle.std.specs.Prelude.{◌≡◌, refl, Bool, true, ◌&&◌, List, ℕ, ◌+◌, ◌<◌, eqb}
 use Rattle.std.proofs.Common.{◌∙◌, inl, inr, arith}
 use borrow.Author.Tests.{eqb-true, eq-eqb}
 use Rattle.words.proofs.Logic.{and_both}
@@ -9,7 +9,7 @@ use Rattle.words.proofs.Mask.{inside-sub, sub-inside, bits_agree}
 use Rattle.formula.specs.Formula.{Formula}
 use Rattle.formula.specs.Reason.{Explains}
 use Rattle.formula.proofs.ReasonWord.{word-agree}
-use Rattle.form.specs.Form.{room, record_numbers, record_start}
+use Rattle.form.specs.Form.{record_numbers, record_start}
 use Rattle.form.proofs.FormLaws.{start_none, start_mono, start-before}
 use Rattle.form.specs.declared.Form.{Form}
 pub use Rattle.records.specs.Layout.{frame_at, mask_at, values_at}

@@ -1,13 +1,8 @@
 -- What the record finder hands back: which record of which table, the numbers of that part, and its place. Assumes nothing.
 use Rattle.std.specs.Prelude.{◌≡◌, Bool, cond, ◌&&◌, ◌||◌, ◌⊎◌, List, [], ℕ, ◌+◌, ◌*◌, ◌<◌, ◌≤◌, length, eqb, ltb}
-use Rattle.std.proofs.Common.{◌∙◌, inl, inr, arith}
 use Rattle.std.specs.Borrow.{Bor}
-use borrow.Author.Tests.{lt-ltb, le-ltb}
-use Rattle.words.specs.Logic.{tests}
-use Rattle.words.proofs.Logic.{by_bool}
 use Rattle.words.specs.Mask.{agree}
 use Rattle.formula.specs.Least.{least}
-use Rattle.formula.proofs.Least.{least-hit, least_miss, least-is, least-none}
 use Rattle.form.specs.Form.{room, record_start}
 use Rattle.form.specs.declared.Form.{Form}
 use Rattle.records.specs.declared.Hit.{Hit}

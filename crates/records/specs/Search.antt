@@ -1,10 +1,9 @@
 -- What a search of a table finds. Assumes nothing.
 use Rattle.std.specs.Prelude.{◌≡◌, Bool, true, false, List, ℕ, ◌<◌}
-use Rattle.std.proofs.Common.{sym, ◌∙◌, inr}
 use Rattle.records.specs.declared.Found.{Found}
 use Rattle.records.specs.declared.Found.TheVariants.{At, Nothing}
 use Rattle.form.specs.declared.Form.{Form}
-use Rattle.records.specs.Table.{matches, Kept}
+use Rattle.records.specs.Table.{matches}
 
 -- none of the numbers below n passes p
 abbrev pub NoneBelow : (ℕ → Bool) → ℕ → Type 0

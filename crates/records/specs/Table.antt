@@ -1,19 +1,12 @@
 -- A table of records (frame, mask, values) in either form, of which the first `count` are kept. Assumes nothing.
-use Rattle.std.specs.Prelude.{◌≡◌, refl, ◌⊎◌, Bool, true, ◌&&◌, List, ℕ, ◌+◌, ◌<◌, ◌≤◌, length, get_or, eqb}
-use Rattle.std.proofs.Common.{◌∙◌, inl, inr, arith}
-use borrow.Author.Tests.{eqb-true, eq-eqb}
-use Rattle.words.proofs.Logic.{and_both}
+use Rattle.std.specs.Prelude.{◌≡◌, ◌⊎◌, Bool, true, ◌&&◌, List, ℕ, ◌<◌, ◌≤◌, length, get_or, eqb}
 use Rattle.words.specs.Word.{bit}
 use Rattle.words.specs.Mask.{Sub, inside, agree}
-use Rattle.words.proofs.Mask.{inside-sub, sub-inside, bits_agree}
 use Rattle.formula.specs.Formula.{Formula}
 use Rattle.formula.specs.Reason.{Explains}
-use Rattle.formula.proofs.ReasonWord.{word-agree}
-use Rattle.form.specs.Form.{room, record_numbers, record_start}
-use Rattle.form.proofs.FormLaws.{start_none, start_mono, start-before}
+use Rattle.form.specs.Form.{room, record_start}
 use Rattle.form.specs.declared.Form.{Form}
 pub use Rattle.records.specs.Layout.{frame_at, mask_at, values_at}
-use Rattle.records.specs.Layout.{number_at, Reads}
 
 -- record j is one of that frame, its mask lies inside the assigned variables, and it agrees with the setting
 unfoldable pub matches : Form → List ℕ → ℕ → ℕ → ℕ → ℕ → Bool

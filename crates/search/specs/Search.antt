@@ -4,7 +4,7 @@ use Rattle.words.specs.Word.{bit}
 use Rattle.formula.specs.Formula.{Formula}
 use Rattle.records.specs.Both.{Tables}
 use Rattle.net.specs.Net.{Clear}
-use Rattle.net.specs.Layout.{net_form, frames_of, packed, formula_at, val, Ground}
+use Rattle.net.specs.Layout.{net_form, frames_of, packed, val, Ground}
 use Rattle.net.specs.Sheet.{Faithful}
 use Rattle.judge.specs.Judge.{Judged}
 pub use Rattle.imply.specs.Posed.{Found, Met, Lost, Solved, Free, Covers, Posed}

@@ -1,20 +1,15 @@
 -- What a session holds, and what is always so of it: on a checked sheet, with entries that may stand together and tables of true records. Assumes nothing.
-use Rattle.std.specs.Prelude.{ℕ, ◌≤◌, ◌<◌, ◌≡◌, false, List, [], length, take}
-use Rattle.std.proofs.Common.{arith, sym, length-take-le, get_or-take, take-take}
-use Rattle.words.specs.Word.{bit}
-use Rattle.form.proofs.FormLaws.{few-variables}
+use Rattle.std.specs.Prelude.{ℕ, ◌≤◌, ◌<◌, ◌≡◌, false, List, length, take}
 use Rattle.sheet.specs.Fields.{Sheet, variables}
 use Rattle.sheet.specs.Rules.{gauges}
-use Rattle.records.proofs.Both.{tables_none}
 use Rattle.net.specs.Layout.{free_of}
 use Rattle.net.specs.Sheet.{NetOf}
 pub use Rattle.net.specs.Sheet.{Checked}
-use Rattle.solver.specs.Contract.{root, Tables, Ready}
+use Rattle.solver.specs.Contract.{root, Tables}
 use Rattle.model.specs.declared.Entry.{Entry}
 use Rattle.session.specs.declared.Session.{Session}
-use Rattle.model.specs.Model.{Meaning, meaning, no_entry, entered_mask, entered_values, entered}
+use Rattle.model.specs.Model.{Meaning, meaning, entered}
 use Rattle.model.specs.Entries.{Entered, Words, entry_at}
-use Rattle.model.proofs.Entries.{words_valued, words_opened, none-entered, not_earlier_lem, opens_below, bit_opens}
 
 -- the entries that stand, oldest first
 abbrev pub standing_of : Session → List Entry

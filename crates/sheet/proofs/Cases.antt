@@ -6,7 +6,7 @@ use Rattle.formula.specs.Assignment.{within}
 use Rattle.formula.specs.Formula.{free}
 use Rattle.sheet.specs.Cause.{first}
 use Rattle.form.specs.declared.Form.TheVariants.{Narrow, Wide}
-use Rattle.sheet.specs.Fields.{Sheet, sheet_of, fields_at, kind_of}
+use Rattle.sheet.specs.Fields.{sheet_of, fields_at, kind_of}
 use Rattle.sheet.specs.Frames.{build, tree, formula_of}
 use Rattle.sheet.specs.Rules.{some_below, used, spare_set, names, some_late, bad_range, bad_variables, binds, names_input, names_gauge, some_before, gauges, meet, named_both, binds_gauge, length_causes, field_causes, causes_below, frame_causes, sheet_refusal}
 use Rattle.sheet.specs.Cases.{Case}

@@ -1,13 +1,9 @@
 -- A sheet: its form and its bytes; the fields of each frame, by the form's layout, and the kind that they say, which is the same for both forms. Assumes
 -- nothing.
-use Rattle.std.specs.Prelude.{◌≡◌, cond, List, ℕ, ◌+◌, ◌*◌, ◌<◌, ◌≤◌, length, get_or, eqb, ltb}
+use Rattle.std.specs.Prelude.{◌≡◌, ℕ, ◌<◌, ◌≤◌}
 use Rattle.std.proofs.Common.{◌∙◌, ap, lt-ltb, le-ltb}
 use Rattle.form.specs.Form as Sizes
 use Rattle.form.specs.declared.Form.{Form}
-use Rattle.form.specs.declared.Form.TheVariants.{Narrow, Wide}
-use Rattle.sheet.specs.declared.Fields.{Fields}
-use Rattle.sheet.specs.declared.Kind.{Kind}
-use Rattle.sheet.specs.declared.Kind.TheVariants.{Never, Input, Not, And, Or, Exists, Forall, Gauge}
 use Rattle.sheet.specs.Fields.{Sheet, fields_at, frames, laid, no_fields}
 
 pub fields-at : (s : Sheet) (k : ℕ) → k < frames s → fields_at s k ≡ laid s.form s.bytes k

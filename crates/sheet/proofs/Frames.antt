@@ -1,7 +1,7 @@
 -- What a sheet means: the formula that a frame stands for. Assumes nothing.
-use Rattle.std.specs.Prelude.{ℕ, zero, suc, ◌+◌, ◌≤◌, ◌<◌, ◌≡◌, refl}
+use Rattle.std.specs.Prelude.{ℕ, zero, suc, ◌≤◌, ◌<◌, ◌≡◌, refl}
 use Rattle.std.proofs.Common.{arith, ap, ap₂}
-use Rattle.formula.specs.Formula.{Formula, never, input, neg, and, or, exists, forall}
+use Rattle.formula.specs.Formula.{Formula, neg, and, or, exists, forall}
 use Rattle.sheet.specs.Fields.{Sheet, frames, kind_of, kind}
 use Rattle.sheet.proofs.FieldsLaws.{fields-past}
 use Rattle.sheet.specs.declared.Kind.{Kind}

@@ -1,7 +1,7 @@
 -- One pass over the frames: what holds before frame k, how it comes to hold before the next, and what the check answers. Assumes nothing.
 use Prim.Native.Nat.{ℕ, zero, suc, ◌+◌, ◌-◌, ◌^◌, ◌≤◌, ◌<◌}
 use Rattle.std.proofs.Common.{add-one, arith, ◌∙◌, subst, get_or-set_other}
-use Rattle.std.specs.Prelude.{◌≡◌, refl, Bool, false, cond, ◌||◌, length, get_or, set, eqb, ltb}
+use Rattle.std.specs.Prelude.{◌≡◌, refl, Bool, false, ◌||◌, length, get_or, set, eqb, ltb}
 use Rattle.std.proofs.Math.Path.{sym, ap}
 use Rattle.std.proofs.Math.Bool.{true, or-false}
 use mathlib.Core.List.{List, [], ◌∷◌}
@@ -14,7 +14,6 @@ use Rattle.words.proofs.Word.{bit-or, bit-none, ext}
 use Rattle.formula.specs.Formula.{free}
 use Rattle.formula.specs.Ask.{free_mask}
 use Rattle.formula.proofs.Ask.{free_mask-lt, bit-free}
-use Rattle.sheet.specs.Refusal as Number
 use Rattle.sheet.specs.Cause.{Cause, Refusal, first, some_holds}
 use Rattle.sheet.proofs.Cause.{some_append, first-later, first_earlier, first-none, none_first}
 use Rattle.form.specs.Form as Sizes
@@ -22,7 +21,7 @@ use Rattle.form.proofs.FormLaws.{few-variables}
 use Rattle.sheet.specs.Fields.{Sheet, frames, most_frames, variables, kind}
 use Rattle.sheet.specs.Frames.{formula, Fit}
 use Rattle.sheet.proofs.Frames.{fit-later, fit-more, formula-below}
-use Rattle.sheet.specs.Rules.{last, bad_variables, binds, names_input, names_gauge, some_before, bound_before, gauges, Past, past_of, meet, length_causes, size_causes, field_causes, causes_of, causes_at, causes_below, root_causes, frame_causes, sheet_causes}
+use Rattle.sheet.specs.Rules.{last, bad_variables, some_before, bound_before, gauges, Past, past_of, meet, length_causes, size_causes, field_causes, causes_of, causes_at, causes_below, root_causes, frame_causes, sheet_causes}
 use Rattle.form.specs.declared.Form.{Form}
 use Rattle.sheet.specs.declared.Fields.{Fields}
 use Rattle.sheet.specs.declared.Kind.{Kind}
@@ -31,7 +30,7 @@ use Rattle.sheet.specs.RuleLaws.{CleanAt}
 use Rattle.sheet.proofs.RuleLaws.{none-clean, clean-below, below-ordered, field_numbered, size_numbered}
 use Rattle.sheet.proofs.Accepted.{clean-ordered, ordered-bounded}
 use Rattle.sheet.proofs.Gauges.{gauges-all}
-use Rattle.sheet.specs.Check.{Checks, past_by, none_seen, seen_after, free_word, FreeBelow}
+use Rattle.sheet.specs.Check.{Checks, past_by, none_seen, seen_after, free_word}
 use Rattle.sheet.proofs.CheckLaws.{bit-bound_mask, bit-input_mask, bit-gauge_mask, freeWord-is, meet-same}
 use Rattle.sheet.specs.Pass.{Passed, RootChecks, Scanning}
 

@@ -5,9 +5,8 @@ use Rattle.std.specs.Prelude.{List, [], ◌∷◌, ◌++◌}
 use Rattle.words.proofs.Logic.{by_bool}
 use Rattle.form.proofs.FormLaws.{some-frames}
 use Rattle.form.specs.declared.Form.{Form}
-use Rattle.sheet.specs.Cause.{Cause, Refusal, first, some_holds}
+use Rattle.sheet.specs.Cause.{Cause, first, some_holds}
 use Rattle.sheet.proofs.Cause.{first_earlier, first-later}
-use Rattle.sheet.specs.Refusal as Number
 use Rattle.sheet.specs.Fields.{Sheet, frames, most_frames}
 use Rattle.sheet.specs.Rules.{Past, length_causes, size_causes, field_causes, causes_below, root_causes, frame_causes, sheet_refusal}
 use Rattle.sheet.proofs.Accepted.{none_sized}

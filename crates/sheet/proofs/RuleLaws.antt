@@ -11,9 +11,9 @@ use Rattle.formula.specs.Assignment.{within}
 use Rattle.sheet.specs.Cause.{some_holds, Numbered}
 use Rattle.sheet.proofs.Cause.{some_append, numbered_append}
 use Rattle.form.specs.Form.{variables}
-use Rattle.sheet.specs.Fields.{Sheet, frames, fields_at, kind_of, kind}
+use Rattle.sheet.specs.Fields.{Sheet, frames, kind_of, kind}
 use Rattle.sheet.specs.Frames.{Fit, OrderedBelow}
-use Rattle.sheet.specs.Rules.{some_below, used, spare_set, names, some_late, bad_range, bad_variables, binds, names_input, names_gauge, some_before, Past, past_of, meet, named_both, binds_gauge, length_causes, size_causes, field_causes, causes_at, causes_below, root_causes, frame_causes, sheet_causes}
+use Rattle.sheet.specs.Rules.{some_below, used, spare_set, names, some_late, bad_range, bad_variables, binds, names_input, names_gauge, some_before, Past, meet, named_both, binds_gauge, length_causes, size_causes, field_causes, causes_at, causes_below, root_causes, frame_causes, sheet_causes}
 use Rattle.form.specs.declared.Form.{Form}
 use Rattle.sheet.specs.declared.Fields.{Fields}
 use Rattle.sheet.specs.declared.Kind.{Kind}

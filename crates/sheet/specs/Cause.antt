@@ -1,7 +1,5 @@
 -- Causes of a refusal in their order, and the first of them that holds. Assumes nothing.
-use Rattle.std.specs.Prelude.{ℕ, ◌<◌, ◌≡◌, refl, Bool, true, false, cond, ◌||◌, ◌↔◌, List, [], ◌∷◌, ◌++◌}
-use Rattle.std.proofs.Common.{arith, sym, ap, ◌∙◌, subst}
-use Rattle.words.proofs.Logic.{by_bool, clash, or-false}
+use Rattle.std.specs.Prelude.{ℕ, ◌<◌, ◌≡◌, Bool, true, false, cond, ◌||◌, List, [], ◌∷◌, ◌++◌}
 
 -- whether it holds, its number in document 01's table, and the place that it is told at
 pub record Cause : Type 0 where

@@ -1,26 +1,15 @@
 -- What the check of a sheet computes: words of the variables that frames bind, name and have free, and its answer. Assumes nothing.
-use Rattle.std.specs.Prelude.{ℕ, ◌^◌, ◌<◌, ◌≡◌, refl, Bool, true, false, not, cond, ◌&&◌, List, [], ◌∷◌, get_or, eqb, ltb}
-use Rattle.std.proofs.Common.{sym, ◌∙◌, ap, ap₂, subst, lt_of_le_of_lt, pow_pos}
-use Rattle.std.proofs.Math.Path.{fun_ext}
-use Rattle.std.proofs.Math.Pow.{pow-lt}
-use Rattle.std.specs.Int.Bits.{bit_and, bit_or}
-use Rattle.std.proofs.lemmas.Nat.{and_le_l}
-use borrow.Author.Tests.{eq-eqb, eqb-true}
-use Rattle.words.specs.Logic.{tests}
-use Rattle.words.proofs.Logic.{by_bool, clash}
+use Rattle.std.specs.Prelude.{ℕ, ◌^◌, ◌<◌, ◌≡◌, cond, List, get_or}
+use Rattle.std.specs.Int.Bits.{bit_or}
 use Rattle.words.specs.Word.{bit}
-use Rattle.words.proofs.Word.{bit-and, bit-none, bit-pow, bit_high, ext}
 use Rattle.words.specs.Mask.{without, range_mask}
-use Rattle.words.proofs.Mask.{bit-range_mask, range-lt}
-use Rattle.formula.specs.Assignment.{within}
 use Rattle.formula.specs.Formula.{Formula}
 use Rattle.formula.specs.Ask.{free_mask}
-use Rattle.formula.proofs.FreeMask.{free_mask-never, free_mask-input, free_mask-neg, free_mask-gate, free_mask-quant}
-use Rattle.sheet.specs.Cause.{Cause, Refusal, first, some_holds, Numbered, Foremost}
+use Rattle.sheet.specs.Cause.{Cause, first, some_holds}
 use Rattle.sheet.specs.Refusal as Number
 use Rattle.form.specs.Form.{variables}
 use Rattle.sheet.specs.Fields.{Sheet}
-use Rattle.sheet.specs.Frames.{formula, build, Fit}
+use Rattle.sheet.specs.Frames.{formula}
 use Rattle.sheet.specs.Rules as Rules
 use Rattle.sheet.specs.Rules.{last, bad_variables, cause, binds, names_input, names_gauge, Past, meet, named_both, binds_gauge}
 use Rattle.form.specs.declared.Form.{Form}

@@ -1,7 +1,6 @@
 -- A sheet: its form and its bytes; the fields of each frame, by the form's layout, and the kind that they say, which is the same for both forms. Assumes
 -- nothing.
-use Rattle.std.specs.Prelude.{◌≡◌, cond, List, ℕ, ◌+◌, ◌*◌, ◌<◌, ◌≤◌, length, get_or, eqb, ltb}
-use Rattle.std.proofs.Common.{◌∙◌, ap, lt-ltb, le-ltb}
+use Rattle.std.specs.Prelude.{cond, List, ℕ, ◌+◌, ◌*◌, length, get_or, eqb, ltb}
 use Rattle.form.specs.Form as Sizes
 use Rattle.form.specs.declared.Form.{Form}
 use Rattle.form.specs.declared.Form.TheVariants.{Narrow, Wide}

@@ -1,8 +1,7 @@
 -- What a sheet means: the formula that a frame stands for. Assumes nothing.
-use Rattle.std.specs.Prelude.{ℕ, zero, suc, ◌+◌, ◌≤◌, ◌<◌, ◌≡◌, refl}
-use Rattle.std.proofs.Common.{arith, ap, ap₂}
+use Rattle.std.specs.Prelude.{ℕ, zero, suc, ◌+◌, ◌≤◌, ◌<◌}
 use Rattle.formula.specs.Formula.{Formula, never, input, neg, and, or, exists, forall}
-use Rattle.sheet.specs.Fields.{Sheet, frames, kind_of, kind}
+use Rattle.sheet.specs.Fields.{Sheet, kind}
 use Rattle.sheet.specs.declared.Kind.{Kind}
 use Rattle.sheet.specs.declared.Kind.TheVariants.{Never, Input, Not, And, Or, Exists, Forall, Gauge}
 

@@ -1,32 +1,17 @@
 -- One pass over the frames: what holds before frame k, how it comes to hold before the next, and what the check answers. Assumes nothing.
-use Prim.Native.Nat.{ℕ, zero, suc, ◌+◌, ◌-◌, ◌^◌, ◌≤◌, ◌<◌}
-use Rattle.std.proofs.Common.{add-one, arith, ◌∙◌, subst, get_or-set_other}
-use Rattle.std.specs.Prelude.{◌≡◌, refl, Bool, false, cond, ◌||◌, length, get_or, set, eqb, ltb}
-use Rattle.std.proofs.Math.Path.{sym, ap}
-use Rattle.std.proofs.Math.Bool.{true, or-false}
-use mathlib.Core.List.{List, [], ◌∷◌}
-use Rattle.std.proofs.Math.ListN.{length-set}
-use Rattle.std.proofs.Math.Seq.{get_or-set_same}
-use Rattle.words.specs.Logic.{tests}
-use Rattle.words.proofs.Logic.{by_bool, clash, or_left, or_right}
+use Prim.Native.Nat.{ℕ, ◌≤◌, ◌<◌}
+use Rattle.std.specs.Prelude.{◌≡◌, Bool, false, cond, length}
+use Rattle.std.proofs.Math.Bool.{true}
+use mathlib.Core.List.{List}
 use Rattle.words.specs.Word.{bit}
-use Rattle.words.proofs.Word.{bit-or, bit-none, ext}
-use Rattle.formula.specs.Formula.{free}
-use Rattle.formula.specs.Ask.{free_mask}
-use Rattle.formula.proofs.Ask.{free_mask-lt, bit-free}
 use Rattle.sheet.specs.Refusal as Number
-use Rattle.sheet.specs.Cause.{Cause, Refusal, first, some_holds}
-use Rattle.form.specs.Form as Sizes
-use Rattle.form.proofs.FormLaws.{few-variables}
 use Rattle.sheet.specs.Fields.{Sheet, frames, most_frames, variables, kind}
-use Rattle.sheet.specs.Frames.{formula, Fit}
-use Rattle.sheet.specs.Rules.{last, bad_variables, binds, names_input, names_gauge, some_before, bound_before, gauges, Past, past_of, meet, length_causes, size_causes, field_causes, causes_of, causes_at, causes_below, root_causes, frame_causes, sheet_causes}
+use Rattle.sheet.specs.Frames.{formula}
+use Rattle.sheet.specs.Rules.{binds, names_input, names_gauge, some_before, meet, frame_causes}
 use Rattle.form.specs.declared.Form.{Form}
-use Rattle.sheet.specs.declared.Fields.{Fields}
-use Rattle.sheet.specs.declared.Kind.{Kind}
 use Rattle.sheet.specs.declared.rules.Seen.{Seen}
 use Rattle.sheet.specs.RuleLaws.{CleanAt}
-use Rattle.sheet.specs.Check.{Checks, past_by, none_seen, seen_after, free_word, FreeBelow}
+use Rattle.sheet.specs.Check.{Checks, FreeBelow}
 
 -- before frame k: no cause holds below it, and the words of free variables and of what earlier frames did are right
 pub record Passed (s : Sheet) (words : List ℕ) (seen : Seen) (k : ℕ) : Type 0 where

@@ -1,8 +1,6 @@
 -- How a reader of a sheet moves: frame by frame, and no further than the end. Assumes nothing.
-use Rattle.std.specs.Prelude.{ℕ, ◌+◌, ◌≤◌, ◌<◌, ◌≡◌, cond, List, ltb}
-use Rattle.std.proofs.Common.{subst, lt-ltb, le-ltb}
+use Rattle.std.specs.Prelude.{ℕ, ◌+◌, ◌≡◌, cond, ltb}
 use Rattle.form.specs.Form.{form_of}
-use Rattle.form.specs.declared.Form.{Form}
 use Rattle.sheet.specs.Fields.{Sheet, sheet_of, frames, kind}
 use Rattle.sheet.specs.declared.Frame.{Frame}
 use Rattle.sheet.specs.declared.reader.Reader.{Reader}

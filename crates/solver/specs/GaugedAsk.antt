@@ -18,9 +18,8 @@ use Rattle.formula.proofs.Reason.{explains_truth}
 use Rattle.formula.specs.Over.{over}
 use Rattle.formula.proofs.Over.{over_none}
 use Rattle.formula.specs.Ask.{yes, Entries, free_mask, ask}
-use Rattle.formula.specs.Ask as Question
 use Rattle.formula.proofs.Ask as QuestionLaws
-use Rattle.formula.specs.Gauges.{unread, ours, possible, assured, no_at, verdict}
+use Rattle.formula.specs.Gauges.{unread, ours, possible, assured, no_at}
 use Rattle.formula.proofs.GaugeLaws.{unread-free, unread-apart, ours-free, ours-entered, ours-unread, may_free, set_entered, possible-ask, every-assured, assured-every, verdict-yes, verdict-no, verdict-plain}
 use Rattle.form.specs.Form.{word_end}
 use Rattle.form.specs.declared.Form.{Form}

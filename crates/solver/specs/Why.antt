@@ -14,7 +14,6 @@ use Rattle.formula.specs.Assignment.{On}
 use Rattle.formula.specs.Formula.{Formula}
 use Rattle.formula.specs.Reason.{Explains}
 use Rattle.formula.proofs.Reason.{explains_truth, explains_set}
-use Rattle.formula.specs.Over.{over}
 use Rattle.formula.specs.Why.{reduce}
 use Rattle.formula.proofs.Why.{explains_always, fails-always, reduce-drop, reduce-keep, reduce_skip}
 use Rattle.form.proofs.FormLaws.{few-variables}

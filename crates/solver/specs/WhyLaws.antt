@@ -8,7 +8,7 @@ use Rattle.words.specs.Mask.{Sub, Apart, without}
 use Rattle.words.proofs.Mask.{sub-bits, sub_refl, bits_apart, without-apart, or_apart, apart-sub, apart-sym}
 use Rattle.cube.specs.Cube.{Made}
 use Rattle.cube.proofs.CubeLaws.{made_sub, made_same}
-use Rattle.formula.specs.Formula.{Formula, free}
+use Rattle.formula.specs.Formula.{Formula}
 use Rattle.formula.specs.Reason.{Explains}
 use Rattle.formula.proofs.Reason.{explains_truth, explains_set}
 use Rattle.formula.specs.Why.{reduce, why, start_mask, start_word}

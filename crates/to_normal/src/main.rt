@@ -1,13 +1,15 @@
 // The program: a text of either form from standard input, and the lines of its sheet's normal sheet to standard output.
 #![tactic(auto)]
 
-ghost use Rattle.std.specs.Prelude.{◌≤◌, length};
+ghost use Rattle.std.specs.Prelude.{◌≡◌, ◌<◌, ◌≤◌, length, OnOk, IfSome};
+ghost use Rattle.std.specs.Io.KnownBytes.{Appends};
 ghost use Rattle.form.specs.Form.{form_of};
 ghost use Rattle.sheet.specs.Fields.{sheet_of, narrow, wide};
 ghost use Rattle.to_normal.specs.Printed.{refusal_line, printed_sheet, printed, Begins};
 
 use form::Form;
-use libc::{STDERR_FILENO, STDIN_FILENO, STDOUT_FILENO};
+use std::io;
+use std::io::{Read, Write};
 
 // The most that is read is one byte less, so that a longer text is noticed.
 const TEXT_BYTES: usize = 65537;
@@ -105,14 +107,26 @@ fn print(text: &[u8], out: &mut [u8]) -> usize
     print_sheet(form, &sheet[..end], out)
 }
 
-fn main() {
+// The program over any reader and writers. Where the reader's bytes are known, what is printed for them is appended to what the output holds, or, where
+// they are too many, nothing is.
+fn run<R: Read, W: Write, C: Write>(
+    input: &mut R,
+    output: &mut W,
+    complaints: &mut C,
+) -> io::Result<()>
+    ensures whole { OnOk result (IfSome (R.remaining input.old) (λ text. length text ≤ 65536 → Appends (W.contents output.old) (W.contents output.new) (printed text))) }
+    ensures too_long { OnOk result (IfSome (R.remaining input.old) (λ text. 65536 < length text → W.contents output.new ≡ W.contents output.old)) }
+{
     let mut text = [0u8; TEXT_BYTES];
-    let read = io::read_full(STDIN_FILENO, &mut text);
+    let read = stdio::read_full(input, &mut text)?;
     if read == TEXT_BYTES {
-        io::write_all(STDERR_FILENO, b"to_normal: more than 65,536 bytes\n");
-        return;
+        return complaints.write_all(b"to_normal: more than 65,536 bytes\n");
     }
     let mut lines = [0u8; LINES_BYTES];
     let written = print(&text[..read], &mut lines);
-    io::write_all(STDOUT_FILENO, &lines[..written]);
+    output.write_all(&lines[..written])
+}
+
+fn main(rt: HostRuntime) -> io::Result<()> {
+    run(&mut rt.stdin(), &mut rt.stdout(), &mut rt.stderr())
 }

@@ -1,11 +1,13 @@
 // The program: a text with a narrow sheet from standard input, and the same text with its sheet widened to standard output.
 #![tactic(auto)]
 
-ghost use Rattle.std.specs.Prelude.{List, ℕ, ◌≤◌, length};
+ghost use Rattle.std.specs.Prelude.{List, ℕ, ◌≡◌, ◌<◌, ◌≤◌, ◌∷◌, ◌++◌, cond, length, OnOk, IfSome};
+ghost use Rattle.std.specs.Io.KnownBytes.{Appends};
 ghost use Rattle.to_wide.specs.Converted.{refusal_output, converted_sheet, converted, Prints};
 
-use libc::{STDERR_FILENO, STDIN_FILENO, STDOUT_FILENO};
 use sheet::refusal;
+use std::io;
+use std::io::{Read, Write};
 
 // The most that is read is one byte less, so that a longer text is noticed.
 const TEXT_BYTES: usize = 65537;
@@ -80,22 +82,36 @@ fn convert(text: &[u8], first: &mut [u8], second: &mut [u8]) -> Printed
     convert_sheet(&sheet[..sheet_end], &script[..script_end], first, second)
 }
 
-fn main() {
+// The program over any reader and writers. Where the reader's bytes are known, what they are converted to is appended to what the output holds, or, where
+// they are too many, nothing is.
+fn run<R: Read, W: Write, C: Write>(
+    input: &mut R,
+    output: &mut W,
+    complaints: &mut C,
+) -> io::Result<()>
+    ensures whole { OnOk result (IfSome (R.remaining input.old) (λ text. length text ≤ 65536 →
+        Appends (W.contents output.old) (W.contents output.new)
+        (cond (converted text).refused (converted text).first ((converted text).first ++ 10 ∷ (converted text).second)))) }
+    ensures too_long { OnOk result (IfSome (R.remaining input.old) (λ text. 65536 < length text → W.contents output.new ≡ W.contents output.old)) }
+{
     let mut text = [0u8; TEXT_BYTES];
-    let read = io::read_full(STDIN_FILENO, &mut text);
+    let read = stdio::read_full(input, &mut text)?;
     if read == TEXT_BYTES {
-        io::write_all(STDERR_FILENO, b"to_wide: more than 65,536 bytes\n");
-        return;
+        return complaints.write_all(b"to_wide: more than 65,536 bytes\n");
     }
     let mut first = [0u8; SHEET_LINES_BYTES];
     let mut second = [0u8; SCRIPT_LINES_BYTES];
     let printed = convert(&text[..read], &mut first, &mut second);
     let sheet_end = printed.first;
-    io::write_all(STDOUT_FILENO, &first[..sheet_end]);
+    output.write_all(&first[..sheet_end])?;
     if printed.refused {
-        return;
+        return Ok(());
     }
     let script_end = printed.second;
-    io::write_all(STDOUT_FILENO, b"\n");
-    io::write_all(STDOUT_FILENO, &second[..script_end]);
+    output.write_all(b"\n")?;
+    output.write_all(&second[..script_end])
+}
+
+fn main(rt: HostRuntime) -> io::Result<()> {
+    run(&mut rt.stdin(), &mut rt.stdout(), &mut rt.stderr())
 }

@@ -1,5 +1,5 @@
 -- A narrow sheet widened (document 02, N14): its bytes, what it is refused for, and the contract of `widen` for all inputs. Assumes nothing.
-use Rattle.std.specs.Prelude.{ℕ, zero, suc, ◌+◌, ◌<◌, ◌≡◌, List, [], ◌∷◌, ◌++◌, length, drop, ltb}
+use Rattle.std.specs.Prelude.{ℕ, zero, suc, ◌<◌, ◌≡◌, List, [], ◌∷◌, ◌++◌, length, drop, ltb}
 use Rattle.form.specs.Form.{frame_start}
 use Rattle.form.specs.declared.Form.TheVariants.{Narrow, Wide}
 use Rattle.sheet.specs.declared.Fields.{Fields}

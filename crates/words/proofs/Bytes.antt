@@ -1,5 +1,5 @@
 -- A number as bytes. Assumes nothing.
-use Rattle.std.specs.Prelude.{ℕ, zero, suc, ◌*◌, ◌/◌, ◌%◌, ◌^◌, ◌≡◌, List, [], ◌∷◌}
+use Rattle.std.specs.Prelude.{ℕ, ◌/◌, ◌%◌, ◌^◌, ◌≡◌, List, [], ◌∷◌}
 use Rattle.std.proofs.Common.{arith, ap}
 use Rattle.words.specs.Bytes.{bytes_of}
 

@@ -5,7 +5,7 @@ use Rattle.std.proofs.Math.Bool.{and-false, and-true}
 use Rattle.std.specs.Int.Count.{count_leading_zeros}
 use Rattle.std.proofs.lemmas.Nat.{leading_top, and_le_r, and_comm, or_disjoint, or_lt}
 use Rattle.std.proofs.Math.Pow.{pow-lt, ones_lt, ones_split, high}
-use Rattle.std.specs.Int.Bits.{bit_and, bit_or, bit_xor, and_self, and_zero_l, and_zero_r, xor_add_and, or_zero_r}
+use Rattle.std.specs.Int.Bits.{bit_and, bit_or, and_self, and_zero_l, and_zero_r, xor_add_and, or_zero_r}
 use Rattle.words.specs.Logic.{tests}
 use Rattle.words.proofs.Logic.{by_bool, clash, and_both, or_cases, or_left, or_right}
 use Rattle.words.specs.Word.{bit, xorb}

@@ -2,7 +2,6 @@
 use Rattle.std.specs.Prelude.{◌≡◌, refl, Bool, true, false, not, ◌&&◌, ◌||◌, ℕ, zero, suc, ◌+◌, ◌-◌, ◌*◌, ◌/◌, ◌%◌, ◌^◌, ◌≤◌, ◌<◌, min, max, T, leb, ltb}
 use Rattle.std.proofs.Common.{sym, ap₂, ◌∙◌, subst, zero-le, suc-le-suc, mod-lt, pow-suc, not-suc-le-zero, le_of_suc-le-suc, zero-lt-suc, lt_of_lt_of_le, mod-eq_of_lt, one-add, arith, pow_pos, pow_mono, shr-shr, lt-ltb}
 use Rattle.std.proofs.Math.Path.{ap}
-use Rattle.std.specs.Bool.{beq}
 use Rattle.std.proofs.Math.Nat.{div-eq_of_lt, suc-sub-suc, sub-zero}
 use Rattle.std.proofs.Math.Dec.{eqb, leb-zero, leb-suc-zero, leb-suc-suc, eqb-zero-suc, eqb-suc-zero, eqb-suc-suc}
 use Rattle.std.proofs.Math.Arith.{digits_mod, lt-one}

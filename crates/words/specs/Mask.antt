@@ -1,13 +1,7 @@
 -- Masks: words as sets of places (a place is a bit's number), for every width. Each law is read off bit by bit (`ext`). Assumes nothing.
-use Rattle.std.specs.Prelude.{◌≡◌, refl, Bool, true, false, not, ◌&&◌, ◌||◌, cond, ◌⊎◌, ℕ, zero, suc, ◌+◌, ◌-◌, ◌*◌, ◌/◌, ◌%◌, ◌^◌, ◌≤◌, ◌<◌, leb, ltb, eqb}
-use Rattle.std.proofs.Common.{sym, ap, ap₂, ◌∙◌, subst, inl, inr, lt_of_lt_of_le, lt_of_le_of_lt, pow-suc, one-mul, zero-mul, arith, pow_pos, pow_mono, shl_exact, shl_lt, eqb-true, eq-eqb, lt-ltb, le-ltb, ltb-true, ltb-false, leb-true}
-use Rattle.std.proofs.Math.Bool.{and-false, and-true}
-use Rattle.std.specs.Int.Count.{count_leading_zeros}
-use Rattle.std.proofs.lemmas.Nat.{leading_top, and_le_r, and_comm, or_disjoint, or_lt}
-use Rattle.std.proofs.Math.Pow.{pow-lt, ones_lt, ones_split, high}
-use Rattle.std.specs.Int.Bits.{bit_and, bit_or, bit_xor, and_self, and_zero_l, and_zero_r, xor_add_and, or_zero_r}
-use Rattle.words.specs.Logic.{tests}
-use Rattle.words.specs.Word.{bit, xorb}
+use Rattle.std.specs.Prelude.{◌≡◌, Bool, true, false, cond, ℕ, zero, suc, ◌+◌, ◌-◌, ◌*◌, ◌^◌, ◌≤◌, ◌<◌, ltb, eqb}
+use Rattle.std.specs.Int.Bits.{bit_and, bit_or, bit_xor}
+use Rattle.words.specs.Word.{bit}
 
 -- every place of y is one of f; no place of a is one of b
 pub record Sub (y f : ℕ) : Type 0 where

@@ -1,5 +1,4 @@
 -- `form::answers` meets its contract. Assumes nothing.
-use borrow.Author.Rules.{rules}
 use Rattle.form.proofs.answers.Goals as goal
 
 pub returns-in-Narrow : goal.returns-in-Narrow

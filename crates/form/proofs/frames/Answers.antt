@@ -1,5 +1,4 @@
 -- `form::frames` meets its contract. Assumes nothing.
-use borrow.Author.Rules.{rules}
 use Rattle.form.proofs.frames.Goals as goal
 
 pub returns-in-Narrow : goal.returns-in-Narrow

@@ -1,5 +1,4 @@
 -- `form::rest` meets its contract. Assumes nothing.
-use borrow.Author.Rules.{rules}
 use Rattle.form.proofs.rest.Goals as goal
 
 pub returns-in-Narrow : goal.returns-in-Narrow

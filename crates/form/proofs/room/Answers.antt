@@ -1,5 +1,4 @@
 -- `form::room` meets its contract. Assumes nothing.
-use borrow.Author.Rules.{rules}
 use Rattle.form.proofs.room.Goals as goal
 
 pub returns-in-Narrow : goal.returns-in-Narrow

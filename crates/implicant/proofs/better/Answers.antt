@@ -1,6 +1,5 @@
 -- `implicant::better` meets its contract. Assumes nothing.
 use mathlib.Core.Path.{refl}
-use borrow.Author.Rules.{rules}
 use Rattle.words.proofs.Logic.{clash}
 use mathlib.Core.Bool.{false}
 use Rattle.implicant.proofs.better.Goals as goal

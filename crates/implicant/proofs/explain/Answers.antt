@@ -1,9 +1,6 @@
 -- `implicant::explain` meets its contract: the cells before k are right. Assumes nothing.
-use Prim.Native.Nat.{◌+◌, ◌-◌}
 use native.Mathlib.Omega.{arith}
-use mathlib.Core.Path.{◌≡◌, refl, ◌∙◌}
-use lib.ListN.{length}
-use Rattle.implicant.specs.Implicant.{Shows}
+use mathlib.Core.Path.{refl, ◌∙◌}
 use Rattle.implicant.specs.ImplicantLaws.{shows_none, shows_at}
 use Rattle.implicant.proofs.explain.Goals as goal
 

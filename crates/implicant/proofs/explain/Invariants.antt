@@ -1,10 +1,8 @@
 -- `implicant::explain` meets its contract: the cells before k are right. Assumes nothing.
 use Prim.Native.Nat.{◌+◌, ◌-◌}
-use native.Mathlib.Omega.{arith}
-use mathlib.Core.Path.{◌≡◌, refl, ◌∙◌}
+use mathlib.Core.Path.{◌≡◌}
 use lib.ListN.{length}
 use Rattle.implicant.specs.Implicant.{Shows}
-use Rattle.implicant.specs.ImplicantLaws.{shows_none, shows_at}
 use Rattle.implicant.proofs.explain.Given as goal
 
 abbrev pub invariant-loop-k : goal.invariant-loop-k

@@ -1,6 +1,5 @@
 -- `implicant::explain_at` meets its contract. Assumes nothing.
 use native.Mathlib.Omega.{arith}
-use borrow.Author.Rules.{rules}
 use Rattle.judge.specs.CellLaws.{stored-long}
 use Rattle.judge.specs.JudgeLaws.{right-low}
 use Rattle.implicant.specs.ImplicantLaws.{shows_next}

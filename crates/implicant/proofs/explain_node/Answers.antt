@@ -1,7 +1,6 @@
 -- `implicant::explain_node` meets its contract: one law for each kind of node. Assumes nothing.
 use native.Mathlib.Omega.{arith}
 use mathlib.Core.Path.{refl}
-use borrow.Author.Rules.{rules}
 use Rattle.net.specs.Layout.{reads-low, names-below, joins-right}
 use Rattle.judge.specs.JudgeLaws.{right_leaf, right-not, right-gate, right-binds}
 use Rattle.implicant.specs.ImplicantLaws.{shows_at}

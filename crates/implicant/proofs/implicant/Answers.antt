@@ -1,6 +1,5 @@
 -- `implicant::implicant` meets its contract. Assumes nothing.
 use native.Mathlib.Omega.{arith}
-use borrow.Author.Rules.{rules}
 use Rattle.implicant.proofs.implicant.Goals as goal
 
 pub returns-then-cost : goal.returns-then-cost

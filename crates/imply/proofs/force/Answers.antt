@@ -1,9 +1,6 @@
 -- `imply::force` meets its contract: the wants are right, and so are the variables forced so far. Assumes nothing.
-use Prim.Native.Nat.{◌+◌, ◌≤◌}
 use native.Mathlib.Omega.{arith}
-use mathlib.Core.Path.{◌≡◌, refl, ◌∙◌}
-use lib.ListN.{length}
-use Rattle.imply.specs.Required.{Wanted, Forcing}
+use mathlib.Core.Path.{refl, ◌∙◌}
 use Rattle.imply.specs.RequiredLaws.{required_root, named-fits, wanted_wiped, forcing_none}
 use Rattle.imply.proofs.force.Goals as goal
 

@@ -1,10 +1,8 @@
 -- `imply::force` meets its contract: the wants are right, and so are the variables forced so far. Assumes nothing.
 use Prim.Native.Nat.{◌+◌, ◌≤◌}
-use native.Mathlib.Omega.{arith}
-use mathlib.Core.Path.{◌≡◌, refl, ◌∙◌}
+use mathlib.Core.Path.{◌≡◌}
 use lib.ListN.{length}
 use Rattle.imply.specs.Required.{Wanted, Forcing}
-use Rattle.imply.specs.RequiredLaws.{required_root, named-fits, wanted_wiped, forcing_none}
 use Rattle.imply.proofs.force.Given as goal
 
 abbrev pub invariant-loop-i : goal.invariant-loop-i

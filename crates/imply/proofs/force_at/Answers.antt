@@ -1,7 +1,6 @@
 -- `imply::force_at` meets its contract. Assumes nothing.
 use native.Mathlib.Omega.{arith}
 use mathlib.Core.Path.{refl}
-use borrow.Author.Rules.{rules}
 use Rattle.imply.specs.RequiredLaws.{wanted_at}
 use Rattle.imply.proofs.force_at.Goals as goal
 

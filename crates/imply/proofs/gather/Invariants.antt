@@ -1,8 +1,5 @@
 -- `imply::gather` meets its contract. Assumes nothing.
-use native.Mathlib.Omega.{arith}
-use borrow.Author.Rules.{rules}
-use Rattle.words.proofs.Mask.{top_less}
-use Rattle.imply.specs.GatherLaws.{Gathering, gather_none, gather_more, gather-end}
+use Rattle.imply.specs.GatherLaws.{Gathering}
 use Rattle.imply.proofs.gather.Given as goal
 
 abbrev pub invariant-loop-left : goal.invariant-loop-left

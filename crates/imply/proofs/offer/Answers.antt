@@ -1,5 +1,4 @@
 -- `imply::offer` meets its contract: what is stored is required. Assumes nothing.
-use borrow.Author.Rules.{rules}
 use Rattle.judge.specs.CellLaws.{stored-long}
 use Rattle.imply.specs.RequiredLaws.{wanted_set}
 use Rattle.imply.proofs.offer.Goals as goal

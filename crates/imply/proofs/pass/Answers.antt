@@ -1,7 +1,6 @@
 -- `imply::pass` meets its contract: by the kind of node. Assumes nothing.
 use native.Mathlib.Omega.{arith}
 use mathlib.Core.Path.{refl}
-use borrow.Author.Rules.{rules}
 use Rattle.net.specs.Layout.{flips_below}
 use Rattle.imply.specs.RequiredLaws.{named-fits, required_flip}
 use Rattle.imply.proofs.pass.Goals as goal

@@ -1,7 +1,6 @@
 -- `imply::pass_gate` meets its contract: one law for each side that is wanted. Assumes nothing.
 use native.Mathlib.Omega.{arith}
 use mathlib.Core.Path.{refl, ◌∙◌}
-use borrow.Author.Rules.{rules}
 use Rattle.net.specs.Layout.{joins-left, joins-right}
 use Rattle.judge.specs.JudgeLaws.{judged-at}
 use Rattle.imply.specs.RequiredLaws.{named-fits, required_left, required_right, required_other_left, required_other_right}

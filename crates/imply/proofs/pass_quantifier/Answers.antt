@@ -1,6 +1,5 @@
 -- `imply::pass_quantifier` meets its contract. Assumes nothing.
 use mathlib.Core.Path.{refl, sym, ◌∙◌}
-use borrow.Author.Rules.{rules}
 use Rattle.net.specs.Layout.{binds-below}
 use Rattle.imply.specs.RequiredLaws.{named-fits, required_body}
 use Rattle.imply.proofs.pass_quantifier.Goals as goal

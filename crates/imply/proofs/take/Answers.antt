@@ -1,8 +1,6 @@
 -- `imply::take` meets its contract: the variable that the node reads. Assumes nothing.
 use native.Mathlib.Omega.{arith}
 use mathlib.Core.Path.{sym, ◌∙◌}
-use borrow.Author.Tests.{not-false}
-use borrow.Author.Rules.{rules}
 use Rattle.net.specs.Layout.{reads-low}
 use Rattle.imply.specs.RequiredLaws.{why-reads, forcing_take}
 use Rattle.imply.proofs.take.Goals as goal

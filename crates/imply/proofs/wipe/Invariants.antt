@@ -1,7 +1,6 @@
 -- `imply::wipe` meets its contract: the words up to i are 0. Assumes nothing.
 use Prim.Native.Nat.{◌-◌}
-use native.Mathlib.Omega.{arith}
-use Rattle.imply.specs.RequiredLaws.{Wiping, wiping_none, wiping_more, wiping-end}
+use Rattle.imply.specs.RequiredLaws.{Wiping}
 use Rattle.imply.proofs.wipe.Given as goal
 
 abbrev pub invariant-loop-i : goal.invariant-loop-i

@@ -3,9 +3,6 @@
 -- src/lib.rt:49:5
 -- src/lib.rt:42:1
 use mathlib.Core.Path.{refl}
-use borrow.Author.Rules.{rules}
-use Rattle.normal.proofs.bytes_of.Reads as reads
-use Rattle.normal.proofs.bytes_of.Lts as lts
 use Rattle.normal.proofs.bytes_of.Goals as goal
 
 pub returns-then-wide : goal.returns-then-wide

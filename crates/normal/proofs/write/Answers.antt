@@ -8,11 +8,6 @@
 use Prim.Native.Nat.{ℕ}
 use lib.ListN.{length-replicate, get_or-replicate}
 use native.Mathlib.Omega.{arith}
-use borrow.Author.Rules.{rules}
-use Rattle.normal.proofs.write.Reads as reads
-use Rattle.normal.proofs.write.Lts as lts
-use Rattle.normal.proofs.write_checked.Reads as write-checked-reads
-use Rattle.sheet.proofs.check.Reads as check-reads
 use Rattle.normal.proofs.write.Goals as goal
 
 pub write_checked-requires : goal.write_checked-requires

@@ -17,13 +17,6 @@ use Rattle.normal.proofs.WriteLaws.{visited_few, write_refused, checked_keeps, w
 use Rattle.sheet.specs.Fields.{sheet_of}
 use Rattle.form.specs.Form.{form_of}
 use native.Mathlib.Omega.{arith}
-use borrow.Author.Rules.{rules}
-use Rattle.normal.proofs.write_checked.Reads as reads
-use Rattle.normal.proofs.write_checked.Lts as lts
-use Rattle.normal.proofs.bytes.write_frames.Reads as write-frames-reads
-use Rattle.normal.proofs.bytes_of.Reads as bytes-of-reads
-use Rattle.normal.proofs.visit.place_frames.Reads as place-frames-reads
-use Rattle.normal.proofs.refused.Reads as refused-reads
 use Rattle.normal.proofs.write_checked.Goals as goal
 
 pub returns-then-checked-ne0 : goal.returns-then-checked-ne0

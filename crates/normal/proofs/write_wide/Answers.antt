@@ -8,11 +8,6 @@
 use Prim.Native.Nat.{ℕ}
 use lib.ListN.{length-replicate, get_or-replicate}
 use native.Mathlib.Omega.{arith}
-use borrow.Author.Rules.{rules}
-use Rattle.normal.proofs.write_wide.Reads as reads
-use Rattle.normal.proofs.write_wide.Lts as lts
-use Rattle.normal.proofs.write_checked.Reads as write-checked-reads
-use Rattle.sheet.proofs.check_wide.Reads as check-wide-reads
 use Rattle.normal.proofs.write_wide.Goals as goal
 
 pub write_checked-requires : goal.write_checked-requires

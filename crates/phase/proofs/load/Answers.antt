@@ -1,6 +1,5 @@
 -- `phase::load` meets its contract: the net of the sheet, rewritten, with other bits that no node is read from. Assumes nothing.
 use Rattle.net.specs.LinkLaws.{linked_ground, linked_net}
-use borrow.Author.Rules.{rules}
 use Rattle.phase.proofs.load.Goals as goal
 
 pub absorb-requires : goal.absorb-requires

@@ -1,5 +1,4 @@
 -- `proxies::all` meets its contract, in each form. Assumes nothing.
-use borrow.Author.Rules.{rules}
 use Rattle.proxies.proofs.all.Goals as goal
 
 pub returns-in-Narrow : goal.returns-in-Narrow

@@ -1,8 +1,7 @@
 -- `proxies::body_shows` meets its contract. Assumes nothing.
 use Prim.Native.Nat.{ℕ, ◌-◌}
 use native.Mathlib.Omega.{arith}
-use mathlib.Core.Path.{◌≡◌, refl, ap}
-use borrow.Author.Rules.{rules}
+use mathlib.Core.Path.{refl, ap}
 use Rattle.words.proofs.Logic.{clash}
 use Rattle.net.specs.Layout.{decides-some, decides-low}
 use Rattle.proxies.proofs.body_shows.Goals as goal

@@ -1,6 +1,5 @@
 -- `proxies::low` meets its contract, in each form. Assumes nothing.
 use native.Mathlib.Omega.{arith}
-use borrow.Author.Rules.{rules}
 use Rattle.proxies.proofs.low.Goals as goal
 
 pub returns-in-Narrow : goal.returns-in-Narrow

@@ -3,7 +3,6 @@ use native.Mathlib.Omega.{arith}
 use mathlib.Core.Path.{sym, ◌∙◌}
 use Rattle.words.proofs.Logic.{clash}
 use Rattle.proxies.proofs.Growing.{growing_same}
-use borrow.Author.Rules.{rules}
 use Rattle.proxies.proofs.note.Goals as goal
 
 pub returns-then-i-frames : goal.returns-then-i-frames

@@ -1,6 +1,5 @@
 -- `proxies::note_frame` meets its contract: the record that is put is true, and agrees with the word. Assumes nothing.
 use native.Mathlib.Omega.{arith}
-use borrow.Author.Rules.{rules}
 use Rattle.proxies.proofs.KeptLaws.{low_fits, noted_under, noted_over}
 use Rattle.proxies.proofs.note_frame.Goals as goal
 

@@ -1,8 +1,6 @@
 -- `proxies::recorded` meets its contract: behind the frames, and of a changed node, nothing is said. Assumes nothing.
 use native.Mathlib.Omega.{arith}
 use mathlib.Core.Path.{sym, ◌∙◌}
-use borrow.Author.Tests.{not-true}
-use borrow.Author.Rules.{rules}
 use Rattle.proxies.proofs.recorded.Goals as goal
 
 pub recorded_frame-requires : goal.recorded_frame-requires

@@ -2,7 +2,6 @@
 use native.Mathlib.Omega.{arith}
 use mathlib.Core.Logic.{inl, inr}
 use mathlib.Core.Path.{◌≡◌, refl}
-use borrow.Author.Rules.{rules}
 use Rattle.form.proofs.FormLaws.{fits-room}
 use Rattle.proxies.specs.KeptLaws.{recorded_at}
 use Rattle.records.specs.declared.Found.TheVariants.{At}

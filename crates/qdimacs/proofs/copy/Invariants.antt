@@ -1,11 +1,8 @@
 -- `qdimacs::copy` meets its contract. The invariant: the stores that are left give what all stores give. Assumes nothing.
-use borrow.Author.Rules.{rules}
 use Prim.Native.Nat.{◌-◌, ◌≤◌}
-use native.Mathlib.Omega.{arith}
-use mathlib.Core.Path.{◌≡◌, refl, sym, ap, ◌∙◌}
-use lib.ListN.{length, drop, length-set, drop_of_length-le}
+use mathlib.Core.Path.{◌≡◌}
+use lib.ListN.{length, drop}
 use lib.Seq.{sets}
-use Rattle.words.proofs.Stores.{sets-next, sets-start}
 use Rattle.qdimacs.proofs.copy.Given as goal
 
 abbrev pub invariant-loop-i : goal.invariant-loop-i

@@ -5,7 +5,6 @@ use Rattle.records.specs.declared.Hit.TheVariants.{Under, Over, Neither}
 use Rattle.records.specs.Find.{part_of, place_of}
 use Rattle.records.proofs.FindLaws.{says_of}
 use Rattle.records.proofs.LocateLaws.{part_under, part-over, start-place}
-use borrow.Author.Rules.{rules}
 use Rattle.records.proofs.find_form.Goals as goal
 
 pub part_at-requires : goal.part_at-requires

@@ -1,5 +1,4 @@
 -- `records::find_wide` meets its contract: it is the finder at the wide form. Assumes nothing.
-use borrow.Author.Rules.{rules}
 use Rattle.records.proofs.find_wide.Goals as goal
 
 pub returns : goal.returns

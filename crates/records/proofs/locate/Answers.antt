@@ -5,7 +5,6 @@ use Rattle.form.proofs.FormLaws.{room_fits}
 use Rattle.records.specs.declared.Found.TheVariants.{At, Nothing}
 use Rattle.records.proofs.FindLaws.{hit_under_full, hit-over-full, hit_under, hit-over, hit_neither}
 use Rattle.records.proofs.LocateLaws.{first-is, first-none}
-use borrow.Author.Rules.{rules}
 use Rattle.records.proofs.locate.Goals as goal
 
 pub returns-then-under_count-room : goal.returns-then-under_count-room

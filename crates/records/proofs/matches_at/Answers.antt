@@ -2,7 +2,6 @@
 use mathlib.Core.Path.{sym, ◌∙◌}
 use borrow.Author.Tests.{eq-eqb, ne_eqb}
 use Rattle.records.specs.Table.{matches}
-use borrow.Author.Rules.{rules}
 use Rattle.records.proofs.matches_at.Goals as goal
 
 pub returns-then-r-frame : goal.returns-then-r-frame

@@ -1,7 +1,6 @@
 -- `records::put` meets its contract: the record's numbers behind the counted ones, or none. Assumes nothing.
 use native.Mathlib.Omega.{arith}
 use Rattle.records.proofs.PutLaws.{put_next, put_full}
-use borrow.Author.Rules.{rules}
 use Rattle.records.proofs.put.Goals as goal
 
 pub returns-then-count-room : goal.returns-then-count-room

@@ -1,6 +1,5 @@
 -- `records::record_agrees` meets its contract: values inside the mask are the cube's own (`made_same`), others agree with nothing. Assumes nothing.
 use mathlib.Core.Path.{sym, ◌∙◌}
-use borrow.Author.Rules.{rules}
 use Rattle.words.proofs.Mask.{inside-sub, agree-outside}
 use Rattle.cube.proofs.CubeLaws.{made_same}
 use Rattle.records.proofs.record_agrees.Goals as goal

@@ -1,10 +1,5 @@
 -- `records::search` meets its contract. The loop's invariant: none of the records passed matches. Assumes nothing.
-use mathlib.Core.Path.{sym, ◌∙◌}
 use Prim.Native.Nat.{◌≤◌, ◌-◌}
-use native.Mathlib.Omega.{arith}
-use borrow.Author.Rules.{rules}
-use borrow.Author.Count.{below_more}
-use Rattle.form.proofs.FormLaws.{fits-room}
 use Rattle.records.specs.Table.{matches}
 use Rattle.records.specs.Search.{NoneBelow}
 use Rattle.records.proofs.search.Given as goal

@@ -1,5 +1,4 @@
 -- `response::print_answers` meets its contract: all lines have room, or nothing is written. Assumes nothing.
-use borrow.Author.Rules.{rules}
 use Rattle.response.proofs.PrintedLaws.{no_room_lem, wrote_all}
 use Rattle.form.specs.declared.Form.TheVariants.{Narrow}
 use Rattle.response.proofs.print_answers.Goals as goal

@@ -1,6 +1,5 @@
 -- `response::print_narrow` meets its contract: the answers' part that is handed on holds the reference model's bytes, and a refusal's place fits a byte.
 -- Assumes nothing.
-use borrow.Author.Rules.{rules}
 use native.Mathlib.Omega.{arith}
 use Rattle.response.proofs.PrintedLaws.{prints-same, counted, place-fits, run-refused, answers-start, run_answered}
 use Rattle.response.proofs.print_narrow.Goals as goal

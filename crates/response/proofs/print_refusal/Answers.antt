@@ -1,5 +1,4 @@
 -- `response::print_refusal` meets its contract: as many bytes as an answer. Assumes nothing.
-use borrow.Author.Rules.{rules}
 use Rattle.response.proofs.PrintedLaws.{refusal-line, prints-same}
 use Rattle.form.specs.declared.Form.TheVariants.{Narrow}
 use Rattle.response.proofs.print_refusal.Goals as goal

@@ -1,5 +1,4 @@
 -- `response::print_unread` meets its contract: an arm for each form. Assumes nothing.
-use borrow.Author.Rules.{rules}
 use Rattle.response.proofs.print_unread.Goals as goal
 
 pub returns-in-Narrow : goal.returns-in-Narrow

@@ -1,5 +1,4 @@
 -- `response::print_wide` meets its contract: the answers' part that is handed on holds the reference model's bytes. Assumes nothing.
-use borrow.Author.Rules.{rules}
 use native.Mathlib.Omega.{arith}
 use Rattle.response.proofs.PrintedLaws.{prints-same, counted, run-refused, answers-start, run_answered}
 use Rattle.response.proofs.print_wide.Goals as goal

@@ -1,5 +1,4 @@
 -- `response::print_wide_refusal` meets its contract: as many bytes as an answer. Assumes nothing.
-use borrow.Author.Rules.{rules}
 use Rattle.form.specs.declared.Form.TheVariants.{Wide}
 use Rattle.response.proofs.PrintedLaws.{refusal-line, prints-same}
 use Rattle.response.proofs.print_wide_refusal.Goals as goal

@@ -1,5 +1,4 @@
 -- `response::respond` meets its contract: the parts that are handed on hold the bytes that were read. Assumes nothing.
-use borrow.Author.Rules.{rules}
 use native.Mathlib.Omega.{arith}
 use Rattle.response.proofs.PrintedLaws.{prints-same, counted, text_refused, text_read}
 use Rattle.response.proofs.respond.Goals as goal

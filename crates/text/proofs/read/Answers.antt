@@ -1,5 +1,4 @@
 -- `text::read` meets its contract: it refuses with both buffers as they were, or stores the frames of both parts. Assumes nothing.
-use borrow.Author.Rules.{rules}
 use native.Mathlib.Omega.{arith}
 use mathlib.Core.Bool.{false}
 use mathlib.Core.Path.{ap, ◌∙◌}

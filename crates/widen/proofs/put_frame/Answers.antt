@@ -2,7 +2,6 @@
 use native.Mathlib.Omega.{arith}
 use lib.ListN.{length-set}
 use Rattle.words.proofs.Stores.{seven_sets}
-use borrow.Author.Rules.{rules}
 use Rattle.widen.proofs.put_frame.Goals as goal
 
 pub bounds-out-at-2 : goal.bounds-out-at-2

@@ -1,7 +1,6 @@
 -- `widen::widen` meets its contract. Assumes nothing.
 use native.Mathlib.Omega.{arith}
 use mathlib.Core.Path.{refl}
-use borrow.Author.Rules.{rules}
 use Rattle.widen.proofs.WidenLaws.{widen_refused, widen_short, widen_written}
 use Rattle.widen.proofs.widen.Goals as goal
 

@@ -1,10 +1,6 @@
 -- `widen::widen_frames` meets its contract. The invariant: the frames passed are stored from the start. Assumes nothing.
-use Prim.Native.Nat.{◌≤◌, ◌-◌}
-use mathlib.Core.Path.{◌≡◌, refl, sym, ◌∙◌}
+use mathlib.Core.Path.{refl, sym, ◌∙◌}
 use native.Mathlib.Omega.{arith}
-use lib.ListN.{length}
-use lib.Seq.{sets}
-use Rattle.widen.specs.Widen.{widened_to}
 use Rattle.widen.proofs.WidenLaws.{widened_none, widened-next, widened-all}
 use Rattle.widen.proofs.widen_frames.Goals as goal
 

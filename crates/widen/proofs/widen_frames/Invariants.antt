@@ -1,11 +1,9 @@
 -- `widen::widen_frames` meets its contract. The invariant: the frames passed are stored from the start. Assumes nothing.
 use Prim.Native.Nat.{◌≤◌, ◌-◌}
-use mathlib.Core.Path.{◌≡◌, refl, sym, ◌∙◌}
-use native.Mathlib.Omega.{arith}
+use mathlib.Core.Path.{◌≡◌}
 use lib.ListN.{length}
 use lib.Seq.{sets}
 use Rattle.widen.specs.Widen.{widened_to}
-use Rattle.widen.proofs.WidenLaws.{widened_none, widened-next, widened-all}
 use Rattle.widen.proofs.widen_frames.Given as goal
 
 abbrev pub invariant-loop-k : goal.invariant-loop-k

@@ -1,5 +1,4 @@
 -- `cube::Cube::agrees` meets its contract: it is the words' test. Assumes nothing.
-use borrow.Author.Rules.{rules}
 use Rattle.cube.proofs.Cube.agrees.Goals as goal
 
 pub returns : goal.returns

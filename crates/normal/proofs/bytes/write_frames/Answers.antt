@@ -1,5 +1,4 @@
 -- `normal::bytes::write_frames` meets its contract: each form by its own loop.
-use borrow.Author.Rules.{rules}
 use Rattle.normal.proofs.bytes.write_frames.Goals as goal
 
 pub write_wide-requires : goal.write_wide-requires

@@ -1,12 +1,10 @@
 -- `normal::bytes::write_narrow` meets its contract. The invariant: the frames passed are stored from the start. Assumes nothing.
 use Prim.Native.Nat.{◌≤◌, ◌-◌}
-use mathlib.Core.Path.{◌≡◌, refl, sym, ◌∙◌}
-use native.Mathlib.Omega.{arith}
+use mathlib.Core.Path.{◌≡◌}
 use lib.ListN.{length}
 use lib.Seq.{sets}
 use Rattle.form.specs.declared.Form.TheVariants.{Narrow}
 use Rattle.normal.specs.WordBytes.{words_bytes}
-use Rattle.normal.proofs.BytesLaws.{words_none, words_next, words_all}
 use Rattle.normal.proofs.bytes.write_narrow.Given as goal
 
 abbrev pub invariant-loop-k : goal.invariant-loop-k

@@ -1,7 +1,5 @@
 -- `normal::place::find` meets its contract. The invariant: none of the frames passed is the one sought.
-use Prim.Native.Nat.{◌≤◌, ◌-◌}
 use native.Mathlib.Omega.{arith}
-use Rattle.normal.specs.Visit.{Found}
 use Rattle.normal.proofs.CodeLaws.{seek_start, seek_next, seek_here, seek-end}
 use Rattle.normal.proofs.place.find.Goals as goal
 

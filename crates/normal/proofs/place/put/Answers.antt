@@ -1,6 +1,5 @@
 -- `normal::place::put` meets its contract.
 use Rattle.normal.proofs.CodeLaws.{puts_old, puts_new}
-use borrow.Author.Rules.{rules}
 use Rattle.normal.proofs.place.put.Goals as goal
 
 pub returns-then-number-count : goal.returns-then-number-count

@@ -3,7 +3,6 @@ use lib.ListN.{length}
 use mathlib.Core.Path.{subst}
 use Rattle.sheet.specs.Frames.{Fit}
 use Rattle.normal.specs.Visit.{first_unplaced}
-use borrow.Author.Rules.{rules}
 use Rattle.normal.proofs.visit.first_unplaced.Goals as goal
 
 pub unplaced_or-requires : goal.unplaced_or-requires

@@ -4,11 +4,6 @@
 use Rattle.sheet.specs.Fields.{sheet_of, kind}
 use Rattle.form.specs.declared.Form.{Form}
 use mathlib.Core.Path.{ap, ◌∙◌}
-use borrow.Author.Rules.{rules}
-use Rattle.normal.proofs.visit.kind_at.Reads as reads
-use Rattle.normal.proofs.visit.kind_at.Lts as lts
-use Rattle.form.proofs.of.Reads as of-reads
-use Rattle.sheet.proofs.decode.Reads as decode-reads
 use Rattle.normal.proofs.visit.kind_at.Goals as goal
 
 pub returns : goal.returns

@@ -13,13 +13,6 @@ use Rattle.sheet.proofs.FieldsLaws.{frames-of}
 use Rattle.form.specs.Form.{form_of}
 use Rattle.form.proofs.FormLaws.{most-place}
 use native.Mathlib.Omega.{arith}
-use borrow.Author.Rules.{rules}
-use Rattle.normal.proofs.visit.place_frames.Reads as reads
-use Rattle.normal.proofs.visit.place_frames.Lts as lts
-use Rattle.form.proofs.frames.Reads as frames-reads
-use Rattle.form.proofs.of.Reads as of-reads
-use Rattle.normal.proofs.visit.push.Reads as push-reads
-use Rattle.normal.proofs.visit.visit.Reads as visit-reads
 use Rattle.normal.proofs.visit.place_frames.Goals as goal
 
 pub overflow_sub-last : goal.overflow_sub-last

@@ -4,7 +4,6 @@ use mathlib.Core.Path.{subst}
 use Rattle.sheet.specs.Frames.{Fit}
 use Rattle.normal.specs.Normal.{fields_of}
 use Rattle.normal.specs.Visit.{renamed}
-use borrow.Author.Rules.{rules}
 use Rattle.normal.proofs.visit.renamed_word.Goals as goal
 
 pub number_at-requires : goal.number_at-requires

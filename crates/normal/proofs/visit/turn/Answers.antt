@@ -16,16 +16,6 @@
 -- src/visit.rt:115:1
 use native.Mathlib.Omega.{arith}
 use Rattle.normal.proofs.VisitLaws.{stack-fits, turn_inside, turn-fit, next-room, turn_push, turn-room, turn-number, turn-put}
-use borrow.Author.Rules.{rules}
-use Rattle.normal.proofs.visit.turn.Reads as reads
-use Rattle.normal.proofs.visit.turn.Lts as lts
-use Rattle.normal.proofs.place.put.Reads as put_reads
-use Rattle.normal.proofs.visit.first_unplaced.Reads as first-unplaced-reads
-use Rattle.normal.proofs.visit.kind_at.Reads as kind-at-reads
-use Rattle.normal.proofs.visit.number_frame.Reads as number-frame-reads
-use Rattle.normal.proofs.visit.push.Reads as push-reads
-use Rattle.normal.proofs.visit.renamed_word.Reads as renamed-word-reads
-use Rattle.normal.proofs.visit.top_of.Reads as top-of-reads
 use Rattle.normal.proofs.visit.turn.Goals as goal
 
 pub top_of-own-requires : goal.top_of-own-requires

@@ -1,7 +1,6 @@
 -- `normal::visit::unplaced_or` meets its contract.
 use mathlib.Core.Path.{sym, ◌∙◌}
 use borrow.Author.Tests.{eq-eqb, ne_eqb}
-use borrow.Author.Rules.{rules}
 use Rattle.normal.proofs.visit.unplaced_or.Goals as goal
 
 pub returns-then-number_at : goal.returns-then-number_at

@@ -7,16 +7,8 @@
 -- src/visit.rt:119:1
 -- src/visit.rt:119:1
 use Rattle.normal.proofs.VisitLaws.{visited}
-use Rattle.normal.specs.Visit.{left, Visiting}
-use Rattle.sheet.specs.Fields.{sheet_of}
-use Rattle.sheet.specs.Fields as Sheets
-use Rattle.form.specs.Form.{form_of}
-use lib.ListN.{length}
-use mathlib.Core.Path.{◌≡◌, refl, ◌∙◌}
+use mathlib.Core.Path.{refl, ◌∙◌}
 use native.Mathlib.Omega.{arith}
-use Rattle.normal.proofs.visit.visit.Reads as reads
-use Rattle.normal.proofs.visit.visit.Lts as lts
-use Rattle.normal.proofs.visit.turn.Reads as turn-reads
 use Rattle.normal.proofs.visit.visit.Goals as goal
 
 pub loop-at-init : goal.loop-at-init

@@ -1,7 +1,5 @@
 -- `phase::choice::any_bound` meets its contract: it reads no node behind the frames. Assumes nothing.
-use Prim.Native.Nat.{◌-◌, ◌≤◌}
 use native.Mathlib.Omega.{arith}
-use borrow.Author.Rules.{rules}
 use Rattle.phase.proofs.choice.any_bound.Goals as goal
 
 pub loop-k-init : goal.loop-k-init

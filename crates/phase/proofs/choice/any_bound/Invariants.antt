@@ -1,7 +1,5 @@
 -- `phase::choice::any_bound` meets its contract: it reads no node behind the frames. Assumes nothing.
 use Prim.Native.Nat.{◌-◌, ◌≤◌}
-use native.Mathlib.Omega.{arith}
-use borrow.Author.Rules.{rules}
 use Rattle.phase.proofs.choice.any_bound.Given as goal
 
 abbrev pub invariant-loop-k : goal.invariant-loop-k

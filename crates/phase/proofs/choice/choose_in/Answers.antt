@@ -1,9 +1,6 @@
 -- `phase::choice::choose_in` meets its contract. The invariant: so far the net has other phases only. Assumes nothing.
-use Prim.Native.Nat.{◌-◌}
 use native.Mathlib.Omega.{arith}
-use Rattle.net.specs.Link.{Linked}
 use Rattle.net.specs.LinkLaws.{linked_refl, linked_trans, linked_ground}
-use borrow.Author.Rules.{rules}
 use Rattle.phase.proofs.choice.choose_in.Goals as goal
 
 pub weigh-requires : goal.weigh-requires

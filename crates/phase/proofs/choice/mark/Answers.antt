@@ -2,7 +2,6 @@
 use native.Mathlib.Omega.{arith}
 use mathlib.Core.Path.{refl}
 use Rattle.net.specs.LinkLaws.{linked_reader}
-use borrow.Author.Rules.{rules}
 use Rattle.phase.proofs.choice.mark.Goals as goal
 
 pub returns : goal.returns

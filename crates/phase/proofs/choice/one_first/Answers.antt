@@ -2,7 +2,6 @@
 use Prim.Native.Nat.{ℕ}
 use mathlib.Core.Path.{sym, ap, ◌∙◌}
 use Rattle.words.specs.Word.{bit}
-use borrow.Author.Rules.{rules}
 use Rattle.phase.proofs.choice.one_first.Goals as goal
 
 pub returns-then-has : goal.returns-then-has

@@ -1,7 +1,6 @@
 -- `phase::choice::pass` meets its contract: what a node names stands before it, and its variable is one of 64. Assumes nothing.
 use native.Mathlib.Omega.{arith}
 use Rattle.net.specs.Layout.{reads-low, names-below, joins-right}
-use borrow.Author.Rules.{rules}
 use Rattle.phase.proofs.choice.pass.Goals as goal
 
 pub bounds-uses-left : goal.bounds-uses-left

@@ -1,9 +1,7 @@
 -- `phase::choice::weigh` meets its contract: there is a weight for each frame, and the nodes are passed downwards. Assumes nothing.
-use Prim.Native.Nat.{◌≤◌}
 use native.Mathlib.Omega.{arith}
-use mathlib.Core.Path.{◌≡◌, refl, ◌∙◌}
-use lib.ListN.{length, length-set}
-use borrow.Author.Rules.{rules}
+use mathlib.Core.Path.{refl, ◌∙◌}
+use lib.ListN.{length-set}
 use Rattle.phase.proofs.choice.weigh.Goals as goal
 
 pub overflow_sub-weights : goal.overflow_sub-weights

@@ -1,5 +1,4 @@
 -- `qdimacs::build::assemble` meets its contract: the frames of the matrix and of the blocks are those of the question, and the matrix is asked. Assumes nothing.
-use borrow.Author.Rules.{rules}
 use Prim.Native.Nat.{◌≤◌}
 use native.Mathlib.Omega.{arith}
 use mathlib.Core.Path.{refl, sym}

@@ -1,5 +1,4 @@
 -- `qdimacs::build::build` meets its contract: the two arrays are those of the question. Assumes nothing.
-use borrow.Author.Rules.{rules}
 use native.Mathlib.Omega.{arith}
 use mathlib.Core.Path.{ap, ◌∙◌}
 use lib.ListN.{length, drop}

@@ -1,6 +1,5 @@
 -- `qdimacs::build::contingent` meets its contract: clauses with opposites are always true, and the solver's answer tells the rest. Assumes nothing.
 use native.Mathlib.Omega.{arith}
-use borrow.Author.Rules.{rules}
 use mathlib.Core.Path.{refl, sym, ◌∙◌}
 use Rattle.sheet.specs.Fields.{narrow}
 use Rattle.qdimacs.proofs.MatrixAsked.{judged-true, matrix_checked, matrix-ungauged, ready_none, judged-asked}

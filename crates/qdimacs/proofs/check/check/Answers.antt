@@ -1,6 +1,4 @@
 -- `qdimacs::check::check` meets its contract: each return has the tests that led there. Assumes nothing.
-use borrow.Author.Rules.{rules}
-use borrow.Author.Tests.{not-true, not-false}
 use mathlib.Core.Path.{refl, sym, ap, ◌∙◌}
 use Rattle.dimacs.specs.Shape.{whole}
 use Rattle.dimacs.specs.declared.shape.State.{State}

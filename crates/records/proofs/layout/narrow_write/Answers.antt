@@ -1,5 +1,4 @@
 -- `records::layout::narrow_write` meets its contract: the stores are the record's numbers. Assumes nothing.
-use borrow.Author.Rules.{rules}
 use Rattle.records.proofs.layout.narrow_write.Goals as goal
 
 pub returns : goal.returns

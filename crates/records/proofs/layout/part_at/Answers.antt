@@ -1,5 +1,4 @@
 -- `records::layout::part_at` meets its contract: each form by its own leaf. Assumes nothing.
-use borrow.Author.Rules.{rules}
 use Rattle.records.proofs.layout.part_at.Goals as goal
 
 pub narrow_part-requires : goal.narrow_part-requires

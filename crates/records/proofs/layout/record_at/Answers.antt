@@ -1,5 +1,4 @@
 -- `records::layout::record_at` meets its contract: each form by its own leaf. Assumes nothing.
-use borrow.Author.Rules.{rules}
 use Rattle.records.proofs.layout.record_at.Goals as goal
 
 pub narrow_at-requires : goal.narrow_at-requires

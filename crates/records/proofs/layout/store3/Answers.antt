@@ -2,7 +2,6 @@
 use native.Mathlib.Omega.{arith}
 use lib.ListN.{length-set}
 use Rattle.words.proofs.Stores.{three_sets}
-use borrow.Author.Rules.{rules}
 use Rattle.records.proofs.layout.store3.Goals as goal
 
 pub bounds-table-at-2 : goal.bounds-table-at-2

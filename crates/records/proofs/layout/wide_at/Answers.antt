@@ -1,6 +1,5 @@
 -- `records::layout::wide_at` meets its contract: mask and values are joined of two numbers each. Assumes nothing.
 use mathlib.Core.Path.{refl, sym}
-use borrow.Author.Rules.{rules}
 use Rattle.records.proofs.layout.wide_at.Goals as goal
 
 pub returns : goal.returns

@@ -4,7 +4,6 @@ use native.Mathlib.Omega.{arith}
 use Rattle.form.specs.declared.Form.TheVariants.{Wide}
 use Rattle.records.proofs.LayoutLaws.{part_record}
 use Rattle.records.proofs.LocateLaws.{part-place}
-use borrow.Author.Rules.{rules}
 use Rattle.records.proofs.layout.wide_part.Goals as goal
 
 pub returns : goal.returns

@@ -1,5 +1,4 @@
 -- `records::layout::write` meets its contract: each form by its own leaf. Assumes nothing.
-use borrow.Author.Rules.{rules}
 use Rattle.records.proofs.layout.write.Goals as goal
 
 pub narrow_write-requires : goal.narrow_write-requires

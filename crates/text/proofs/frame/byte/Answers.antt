@@ -1,5 +1,4 @@
 -- `text::frame::byte` meets its contract: both digits are below 16, so the sum is a byte. Assumes nothing.
-use borrow.Author.Rules.{rules}
 use native.Mathlib.Omega.{arith}
 use Prim.Native.Nat.{◌<◌}
 use lib.Seq.{drop-drop}

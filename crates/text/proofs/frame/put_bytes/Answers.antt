@@ -1,13 +1,10 @@
 -- `text::frame::put_bytes` meets its contract. The invariant: the stores that are left give what all stores give. Assumes nothing.
-use borrow.Author.Rules.{rules}
-use Prim.Native.Nat.{suc, ◌+◌, ◌-◌, ◌*◌, ◌≤◌}
+use Prim.Native.Nat.{suc, ◌+◌, ◌-◌, ◌*◌}
 use native.Mathlib.Omega.{arith}
 use native.Mathlib.Numerals.{unary_clauses}
-use mathlib.Core.Bool.{true}
 use mathlib.Core.Path.{◌≡◌, refl, sym, ◌∙◌}
-use lib.ListN.{length, drop, length-set}
-use lib.Seq.{sets, drop-drop}
-use Rattle.text.specs.Line.{digits, bytes}
+use lib.ListN.{length-set}
+use lib.Seq.{drop-drop}
 use Rattle.text.proofs.LineLaws.{digits_two, bytes-put, bytes-none}
 use Rattle.text.proofs.frame.put_bytes.Goals as goal
 

@@ -1,14 +1,10 @@
 -- `text::frame::put_bytes` meets its contract. The invariant: the stores that are left give what all stores give. Assumes nothing.
-use borrow.Author.Rules.{rules}
-use Prim.Native.Nat.{suc, ◌+◌, ◌-◌, ◌*◌, ◌≤◌}
-use native.Mathlib.Omega.{arith}
-use native.Mathlib.Numerals.{unary_clauses}
+use Prim.Native.Nat.{◌+◌, ◌-◌, ◌*◌, ◌≤◌}
 use mathlib.Core.Bool.{true}
-use mathlib.Core.Path.{◌≡◌, refl, sym, ◌∙◌}
-use lib.ListN.{length, drop, length-set}
-use lib.Seq.{sets, drop-drop}
+use mathlib.Core.Path.{◌≡◌}
+use lib.ListN.{length, drop}
+use lib.Seq.{sets}
 use Rattle.text.specs.Line.{digits, bytes}
-use Rattle.text.proofs.LineLaws.{digits_two, bytes-put, bytes-none}
 use Rattle.text.proofs.frame.put_bytes.Given as goal
 
 abbrev pub invariant-loop-i : goal.invariant-loop-i

@@ -1,13 +1,12 @@
 -- `text::frame::put_frames` meets its contract. The invariant: the stores that are left give what all stores give. Assumes nothing.
-use borrow.Author.Rules.{rules}
-use Prim.Native.Nat.{suc, ◌+◌, ◌-◌, ◌*◌, ◌≤◌, ◌<◌}
+use Prim.Native.Nat.{suc, ◌+◌, ◌-◌, ◌<◌}
 use native.Mathlib.Omega.{arith}
 use native.Mathlib.Nat.{zero-mul, suc-mul}
 use native.Mathlib.Numerals.{unary_clauses, add-one}
 use mathlib.Core.Path.{◌≡◌, refl, sym, ap, ◌∙◌}
 use lib.ListN.{length, drop, length-drop}
-use lib.Seq.{sets, length-sets}
-use Rattle.text.specs.Line.{lines, line_size}
+use lib.Seq.{length-sets}
+use Rattle.text.specs.Line.{line_size}
 use Rattle.text.specs.LineStores.{record_within}
 use Rattle.text.proofs.LineLaws.{lines_none, first-line, line-digits, size_shape, other-lines, frames-put, next-within}
 use Rattle.text.proofs.frame.put_frames.Goals as goal

@@ -1,5 +1,4 @@
 -- `text::hex::digit_byte` meets its contract: each return has the test that led there. Assumes nothing.
-use borrow.Author.Rules.{rules}
 use borrow.Author.Tests.{lt-ltb, le-ltb}
 use Rattle.text.specs.Hex.{digit_byte}
 use Rattle.text.proofs.hex.digit_byte.Goals as goal

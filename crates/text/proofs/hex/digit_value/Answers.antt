@@ -1,5 +1,4 @@
 -- `text::hex::digit_value` meets its contract: the tests that led to each return say in which range the byte lies. Assumes nothing.
-use borrow.Author.Rules.{rules}
 use native.Mathlib.Omega.{arith}
 use mathlib.Core.Path.{sym}
 use Rattle.text.proofs.HexLaws.{value-decimal, value-capital, value-lower, value-below, value-before_capitals, value-before-lower, value-above}

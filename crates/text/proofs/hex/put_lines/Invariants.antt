@@ -1,15 +1,9 @@
 -- `text::hex::put_lines` meets its contract. The invariant: the stores that are left give what all stores give. Assumes nothing.
-use borrow.Author.Rules.{rules}
-use Prim.Native.Nat.{ℕ, suc, ◌+◌, ◌-◌, ◌*◌, ◌≤◌, ◌<◌}
-use native.Mathlib.Nat.{zero-mul, suc-mul}
-use native.Mathlib.Numerals.{unary_clauses, add-one}
-use native.Mathlib.Omega.{arith}
-use mathlib.Core.Path.{◌≡◌, refl, sym, ap, ◌∙◌}
-use lib.ListN.{length, take, drop, length-drop}
-use lib.Seq.{sets, length-sets, length-take-le}
-use Rattle.text.specs.Hex.{hex_line, hex_lines}
-use Rattle.text.specs.LineStores.{record_within}
-use Rattle.text.proofs.LineStores.{lines_none, lines-put}
+use Prim.Native.Nat.{◌+◌, ◌-◌, ◌*◌, ◌≤◌}
+use mathlib.Core.Path.{◌≡◌}
+use lib.ListN.{length, drop}
+use lib.Seq.{sets}
+use Rattle.text.specs.Hex.{hex_lines}
 use Rattle.text.proofs.hex.put_lines.Given as goal
 
 abbrev pub invariant-loop-i : goal.invariant-loop-i

@@ -1,5 +1,4 @@
 -- `text::layout::scan` meets its contract: each return has the tests that led there, and the laws of the text. Assumes nothing.
-use borrow.Author.Rules.{rules}
 use native.Mathlib.Omega.{arith}
 use mathlib.Core.Path.{◌∙◌}
 use lib.ListN.{drop, length-drop}

@@ -1,5 +1,4 @@
 -- `text::layout::sheet_fault` meets its contract: the test on the line of the other form decides. Assumes nothing.
-use borrow.Author.Rules.{rules}
 use mathlib.Core.Path.{◌≡◌, sym, ◌∙◌}
 use lib.ListN.{drop}
 use Rattle.form.specs.Form.{frame_bytes}

@@ -1,5 +1,4 @@
 -- `text::layout::wide` meets its contract: the text's first line decides. Assumes nothing.
-use borrow.Author.Rules.{rules}
 use native.Mathlib.Omega.{arith}
 use Rattle.text.specs.Reading.{begins_wide}
 use Rattle.text.proofs.layout.wide.Goals as goal

@@ -1,5 +1,4 @@
 -- `text::line::byte_at` meets its contract: the element at the place, or 0 where the list has none. Assumes nothing.
-use borrow.Author.Rules.{rules}
 use mathlib.Core.Path.{sym, ◌∙◌}
 use lib.ListN.{get_or-eq_default}
 use Rattle.text.proofs.LineLaws.{head-drop}

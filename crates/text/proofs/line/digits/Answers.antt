@@ -1,13 +1,11 @@
 -- `text::line::digits` meets its contract. The invariant: the answer is that of the digits which are still to be read. Assumes nothing.
-use borrow.Author.Rules.{rules}
-use Prim.Native.Nat.{suc, ◌+◌, ◌-◌, ◌≤◌}
+use Prim.Native.Nat.{suc, ◌+◌, ◌-◌}
 use native.Mathlib.Omega.{arith}
 use native.Mathlib.Numerals.{unary_clauses}
 use mathlib.Core.Path.{◌≡◌, sym, ap, ◌∙◌}
 use lib.ListN.{drop}
 use lib.Seq.{drop-drop}
 use Rattle.text.specs.Hex.{digit_value}
-use Rattle.text.specs.Line.{digits}
 use Rattle.text.proofs.LineLaws.{digits-none, digits_stop, digits-go}
 use Rattle.text.proofs.line.digits.Goals as goal
 

@@ -1,5 +1,4 @@
 -- `text::line::ending` meets its contract: the tests on one byte or two decide. Assumes nothing.
-use borrow.Author.Rules.{rules}
 use native.Mathlib.Omega.{arith}
 use mathlib.Core.Path.{sym, ◌∙◌}
 use Rattle.text.proofs.LineLaws.{head-next, head-within, ending-feed, ending-other, ending_return, ending_lone}

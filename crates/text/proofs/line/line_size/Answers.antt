@@ -1,11 +1,9 @@
 -- `text::line::line_size` meets its contract: the tests on the digits and on the line's end decide. Assumes nothing.
-use borrow.Author.Rules.{rules}
 use Prim.Native.Nat.{◌+◌, ◌*◌}
 use native.Mathlib.Omega.{arith}
 use mathlib.Core.Path.{sym, ◌∙◌}
 use lib.ListN.{drop, length-drop}
 use lib.Seq.{drop-drop}
-use borrow.Author.Tests.{not-true, not-false}
 use Rattle.text.proofs.LineLaws.{ending-within, size-no-digits, size-no-end, size-line}
 use Rattle.text.proofs.line.line_size.Goals as goal
 

@@ -1,10 +1,10 @@
 -- `text::line::lines` meets its contract. The invariant: the lines counted so far and those that are left are all lines. Assumes nothing.
-use Prim.Native.Nat.{suc, ◌+◌, ◌-◌, ◌≤◌}
+use Prim.Native.Nat.{suc, ◌+◌, ◌-◌}
 use native.Mathlib.Omega.{arith}
 use native.Mathlib.Nat.{zero-add}
 use native.Mathlib.Numerals.{unary_clauses}
 use mathlib.Core.Path.{◌≡◌, sym, ap, ◌∙◌}
-use lib.ListN.{length, drop}
+use lib.ListN.{drop}
 use Rattle.text.specs.Line.{Lines, no_lines, line_then, lines}
 use Rattle.text.proofs.LineLaws.{lines_none, lines_stop, lines-turn, next-within}
 use Rattle.text.proofs.line.lines.Goals as goal

@@ -1,12 +1,8 @@
 -- `text::line::lines` meets its contract. The invariant: the lines counted so far and those that are left are all lines. Assumes nothing.
-use Prim.Native.Nat.{suc, ◌+◌, ◌-◌, ◌≤◌}
-use native.Mathlib.Omega.{arith}
-use native.Mathlib.Nat.{zero-add}
-use native.Mathlib.Numerals.{unary_clauses}
-use mathlib.Core.Path.{◌≡◌, sym, ap, ◌∙◌}
+use Prim.Native.Nat.{◌+◌, ◌-◌, ◌≤◌}
+use mathlib.Core.Path.{◌≡◌}
 use lib.ListN.{length, drop}
-use Rattle.text.specs.Line.{Lines, no_lines, line_then, lines}
-use Rattle.text.proofs.LineLaws.{lines_none, lines_stop, lines-turn, next-within}
+use Rattle.text.specs.Line.{lines}
 use Rattle.text.proofs.line.lines.Given as goal
 
 abbrev pub invariant-loop-count : goal.invariant-loop-count

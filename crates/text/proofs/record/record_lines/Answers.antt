@@ -1,5 +1,4 @@
 -- `text::record::record_lines` meets its contract: `put_lines` stores the lines of as many records as are whole and have room. Assumes nothing.
-use borrow.Author.Rules.{rules}
 use native.Mathlib.Omega.{arith}
 use Rattle.text.proofs.AnswerLaws.{whole-records, room-lines, wrote_lines}
 use Rattle.text.proofs.record.record_lines.Goals as goal

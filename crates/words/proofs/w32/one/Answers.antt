@@ -1,6 +1,5 @@
 -- `words::w32::one` meets its contract: `1 << v` is 2 to the power v (`one_shl`). Assumes nothing.
 use Rattle.words.proofs.Mask.{one_shl}
-use borrow.Author.Rules.{rules}
 use Rattle.words.proofs.w32.one.Goals as goal
 
 pub returns : goal.returns

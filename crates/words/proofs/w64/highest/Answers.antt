@@ -1,7 +1,6 @@
 -- `words::w64::highest` meets its contract: the highest place is as far from the last as there are leading zeros (`top_of`). Assumes nothing.
 use native.Mathlib.Omega.{arith}
 use Rattle.words.proofs.Mask.{top_of}
-use borrow.Author.Rules.{rules}
 use Rattle.words.proofs.w64.highest.Goals as goal
 
 pub overflow_sub-result : goal.overflow_sub-result

@@ -1,6 +1,5 @@
 -- `words::w64::place` meets its contract: `put` below the last place, and the word itself past it. Assumes nothing.
 use borrow.Author.Tests.{le-ltb, lt-ltb}
-use borrow.Author.Rules.{rules}
 use Rattle.words.specs.Mask.{placed}
 use Rattle.words.proofs.w64.place.Goals as goal
 

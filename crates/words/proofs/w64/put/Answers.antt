@@ -1,6 +1,5 @@
 -- `words::w64::put` meets its contract: the two branches are the definition's. Assumes nothing.
 use Rattle.words.specs.Mask.{put}
-use borrow.Author.Rules.{rules}
 use Rattle.words.proofs.w64.put.Goals as goal
 
 pub returns-then-b : goal.returns-then-b
