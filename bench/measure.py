@@ -30,6 +30,8 @@ TRIVIAL = {
     "smt2": "(set-logic LIA)\n(declare-const x Bool)\n(assert (forall ((y Bool)) (or x y)))\n(check-sat)\n",
     "qdimacs": "p cnf 2 1\ne 1 0\na 2 0\n1 2 0\n",
 }
+# The commands that prove and build our programs.
+WRITES = {"interlock": "bin/interlock", "from_qdimacs": "bin/qdimacs", "to_normal": "bin/normal"}
 YES, NO = "yes", "no"
 SAID = {"sat": YES, "SAT": YES, "unsat": NO, "UNSAT": NO}
 
@@ -57,17 +59,18 @@ def compiled(name, source, *options):
 
 
 def archive():
+    """The archive, or what the variable names."""
     path = pathlib.Path(os.environ.get("HAMMERLOOM_ARCHIVE", ROOT / "target" / "staticlib" / "libhammerloom.a"))
     if not path.is_file():
-        fail(f"no archive at {path} (rt staticlib hammerloom writes it)")
+        fail(f"no archive at {path} (bin/archive writes it)")
     return path.resolve()
 
 
 def built(name, variable):
-    """The program of that name under target/bin, or what the variable names."""
+    """The program of that name under target/bin, which a command of bin/ writes, or what the variable names."""
     path = pathlib.Path(os.environ.get(variable, ROOT / "target" / "bin" / name))
     if not os.access(path, os.X_OK):
-        fail(f"no program at {path} (rt check writes it)")
+        fail(f"no program at {path} ({WRITES[name]} writes it)")
     return path.resolve()
 
 

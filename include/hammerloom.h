@@ -2,8 +2,9 @@
  *
  * Two functions, for the two forms of sheets: narrow ones of up to 32 variables and 200 frames, and wide ones of up to
  * 64 variables and 3,000 frames. What belongs to wide sheets alone has WIDE in its name or stands in square brackets;
- * scripts are the same for both. Link target/staticlib/libhammerloom.a (x86-64). All numbers of more than one byte are
- * written highest byte first. "Bit k" of a word has the weight 2 to the k and belongs to variable k. */
+ * scripts are the same for both. Link target/staticlib/libhammerloom.a (x86-64-v2), which bin/archive builds. All
+ * numbers of more than one byte are written highest byte first. "Bit k" of a word has the weight 2 to the k and belongs
+ * to variable k. */
 #ifndef HAMMERLOOM_H
 #define HAMMERLOOM_H
 

@@ -30,11 +30,11 @@ give_up() {
   finish
 }
 
-need_archive() { [ -f "$archive" ] || give_up "no archive at $archive (rt staticlib hammerloom writes it)"; }
-need_program() { [ -x "$program" ] || give_up "no program at $program (rt check writes it)"; }
-need_qdimacs() { [ -x "$qdimacs" ] || give_up "no reader of questions at $qdimacs (rt check writes it)"; }
-need_widen() { [ -x "$widen" ] || give_up "no converter at $widen (rt check writes it)"; }
-need_normal() { [ -x "$normal" ] || give_up "no writer of normal sheets at $normal (rt check writes it)"; }
+need_archive() { [ -f "$archive" ] || give_up "no archive at $archive (bin/archive writes it)"; }
+need_program() { [ -x "$program" ] || give_up "no program at $program (bin/interlock writes it)"; }
+need_qdimacs() { [ -x "$qdimacs" ] || give_up "no reader of questions at $qdimacs (bin/qdimacs writes it)"; }
+need_widen() { [ -x "$widen" ] || give_up "no converter at $widen (bin/widen writes it)"; }
+need_normal() { [ -x "$normal" ] || give_up "no writer of normal sheets at $normal (bin/normal writes it)"; }
 need_command() { command -v "$1" >/dev/null || give_up "no $1 on this machine"; }
 
 # check NAME COMMAND...: one check; what the command prints is shown only if it fails.
