@@ -1,6 +1,6 @@
 -- For every input some output meets run's contract: the reference model's answers, and for each ASK that is answered the record that its verdict calls for,
 -- while there is room; no other line keeps one. Assumes nothing.
-use Rattle.std.specs.Prelude.{ℕ, zero, suc, ◌+◌, ◌<◌, ◌≡◌, refl, Bool, true, false, ◌&&◌, List, [], ◌++◌, length, drop, eqb, ltb}
+use Rattle.std.specs.Prelude.{ℕ, zero, suc, ◌+◌, ◌<◌, ◌≡◌, refl, Bool, true, false, ◌&&◌, List, ◌++◌, length, drop, eqb, ltb}
 use Rattle.std.proofs.Common.{arith, add-one, sym, ◌∙◌, subst, eq-eqb, eqb-true}
 use Rattle.std.proofs.lemmas.List.Edits.{sets}
 use Rattle.std.specs.Int.Bits.{bit_or}
@@ -27,8 +27,9 @@ use Rattle.records.proofs.Table.{grown_refl}
 use Rattle.records.proofs.Both.{tables_same}
 use Rattle.records.specs.Put.{Put}
 use Rattle.records.proofs.PutLaws.{put_next, put_full, valid_put, kept_put}
+use Rattle.certificate.specs.Exists.{keeper, is_answered}
 use Rattle.solver.specs.Contract.{last, root, verdict_of, unread_of}
-use Rattle.model.specs.Model.{entered_mask, entered_values, ASK, lines, answer_at, answers}
+use Rattle.model.specs.Model.{entered_mask, entered_values, lines, answers}
 use Rattle.session.specs.Step.{searches}
 use Rattle.certificate.specs.Run.{refusal, book, before, kind_at, Held, as_lent, Grows, Promised-at, LineRecords, History}
 use Rattle.certificate.specs.History.{RecordsTrue}
@@ -118,24 +119,17 @@ module _ (sheet : Sheet) (script : List ℕ) (K : Keeps sheet) (i : ℕ) where
     next : Held
     line : LineRecords sheet script i h next
 
-  -- the kind of line that keeps a record, if it is answered
-  abbrev keeper : ℕ
-  keeper = ASK
-
   abbrev is_ask : Bool
   is_ask = eqb (kind_at script i) keeper
 
-  abbrev is_answered : Bool
-  is_answered = eqb (answer_at (book sheet) [] script i).number 0
-
   abbrev asks : Bool
-  asks = is_ask && is_answered
+  asks = is_ask && is_answered sheet script i
 
   module _ (h : Held) (t : RecordsTrue sheet h) where
     -- records that grew by the one that the verdict calls for
     asked-next : asks ≡ true → (h' : Held) → Grows sheet h h' → Promised-at sheet script i h' → Next h
     asked-next e h' g p =
-        let q = and_both is_ask is_answered e in
+        let q = and_both is_ask (is_answered sheet script i) e in
         record {
           next = h';
           line = record {
@@ -177,7 +171,7 @@ module _ (sheet : Sheet) (script : List ℕ) (K : Keeps sheet) (i : ℕ) where
         grows = tables_same t;
         refused = λ r. refl;
         quiet = λ z. refl;
-        promised = λ a. clash asks (and_intro is_ask is_answered (eq-eqb _ _ a.kind) (eq-eqb _ _ a.taken)) e;
+        promised = λ a. clash asks (and_intro is_ask (is_answered sheet script i) (eq-eqb _ _ a.kind) (eq-eqb _ _ a.taken)) e;
       };
     }
 

@@ -2,6 +2,7 @@ pub mod Run
 pub mod Call
 pub mod Accept
 pub mod History
+pub mod Exists
 pub mod Same
 pub mod Verdicts
 pub mod Certificate
