@@ -4,6 +4,8 @@ use Rattle.std.specs.Int.Bits.{bit_and, bit_or}
 use Rattle.words.specs.Word.{bit}
 use Rattle.words.specs.Mask.{without}
 use Rattle.net.specs.Net.{Node, Fixed, Reads, Flips, Joins, Binds, Net, node_of}
+use Rattle.net.specs.Op.{code_of}
+use Rattle.net.specs.declared.node.Node as Read
 use Rattle.net.specs.Layout.{packed}
 
 -- what a cell holds, from the cells before it
@@ -94,6 +96,13 @@ pub record Near (n op left right : ℕ) : Type 0 where
   pub variable : op ≡ 2 → left < 64
   pub one : 3 ≤ op → left < n
   pub two : 4 ≤ op → op < 6 → right < n
+
+-- the same of a node as the code reads it, and the node that it is
+abbrev pub NearNode : ℕ → Read.Node → Type 0
+NearNode n u = Near n (code_of u.op) u.left u.right
+
+abbrev pub node_as : Read.Node → Node
+node_as u = node_of (code_of u.op) u.left u.right u.mask
 
 -- a side node is one of the first i, and does not read y
 pub record SideOk (words : List ℕ) (i y s : ℕ) : Type 0 where

@@ -8,7 +8,7 @@ use Rattle.std.specs.Int.Bits.{bit_and, bit_xor}
 use Rattle.words.specs.Logic.{tests}
 use Rattle.words.proofs.Logic.{by_bool, clash, and_both}
 use Rattle.words.specs.Word.{bit, xorb}
-use Rattle.words.proofs.Word.{bit-and, bit-xor, bit-zero, bit-suc, bit_shr}
+use Rattle.words.proofs.Bits.{bit-and, bit-xor, bit-zero, bit-suc, bit_shr}
 use Rattle.words.specs.Mask.{mask_of}
 use Rattle.words.proofs.Mask.{mask_of-lt, bit-mask_of}
 use Rattle.formula.specs.Assignment.{Assignment, assign, join}

@@ -1,9 +1,8 @@
 -- Node g stored as INPUT y, and the bit spread from it: the net is still that of the sheet. Assumes nothing.
-use Rattle.std.specs.Prelude.{ℕ, ◌+◌, ◌-◌, ◌*◌, ◌/◌, ◌%◌, ◌<◌, ◌≤◌, ◌≡◌, Bool, List, length, replicate, eqb}
+use Rattle.std.specs.Prelude.{ℕ, ◌+◌, ◌-◌, ◌*◌, ◌/◌, ◌%◌, ◌<◌, ◌≤◌, ◌≡◌, Bool, List, length, eqb}
 use Rattle.std.proofs.Common.{arith, sym, ◌∙◌, ap₂}
 use Rattle.std.proofs.Math.Path.{refl, ap, subst, fun_ext}
 use Rattle.std.proofs.Math.Bool.{true, false, not}
-use Rattle.std.proofs.lemmas.List.{length-replicate}
 use Rattle.std.proofs.Math.Dec.{ltb}
 use borrow.Author.Tests.{eqb-true, lt-ltb}
 use Rattle.words.specs.Logic.{tests}
@@ -25,7 +24,7 @@ use Rattle.absorb.specs.Absorb.{Turns, Names, Inside, Outside}
 use Rattle.absorb.specs.AbsorbLaws.{absorb_ordered, absorb_serves}
 use Rattle.absorb.specs.Spread.{still, Spreading}
 use Rattle.absorb.specs.SpreadLaws.{noted_ground}
-use Rattle.absorb.specs.Sheet.{Absorbable, Room, Kept}
+use Rattle.absorb.specs.Sheet.{Absorbable}
 
 -- ---- a node that becomes an INPUT binds nothing
 
@@ -189,53 +188,7 @@ absorbable {net} {q} {op} {left} {right} {mask} G I h b l i s t inner outer =
       small = s;
     }
 
--- ---- what trying keeps
-
-pub kept-none : (net slots sides frees words marks : List ℕ) → Kept net slots sides frees words marks net slots sides frees words marks
-kept-none net slots sides frees words marks =
-    record { net_of = λ s N. N; long = refl; same_slots = refl; same_sides = refl; same-frees = refl; same_words = refl; same_marks = refl }
-
-module _ {net₀ slots₀ sides₀ frees₀ words₀ marks₀ net slots sides frees words marks : List ℕ} (K : Kept net₀ slots₀ sides₀ frees₀ words₀ marks₀ net slots sides frees words marks) where
-  -- one try more
-  pub kept_then : {net' slots' sides' frees' words' marks' : List ℕ} → Kept net slots sides frees words marks net' slots' sides' frees' words' marks'
-      → Kept net₀ slots₀ sides₀ frees₀ words₀ marks₀ net' slots' sides' frees' words' marks'
-  kept_then L =
-      record {
-        net_of = λ s N. L.net_of s (K.net_of s N);
-        long = L.long ∙ K.long;
-        same_slots = L.same_slots ∙ K.same_slots;
-        same_sides = L.same_sides ∙ K.same_sides;
-        same-frees = L.same-frees ∙ K.same-frees;
-        same_words = L.same_words ∙ K.same_words;
-        same_marks = L.same_marks ∙ K.same_marks;
-      }
-
-  -- the frames are as many as before
-  pub kept-count : {s : Sheet} → NetOf s net₀ → frames_of net ≡ frames_of net₀
-  kept-count {s} N = (K.net_of s N).count ∙ sym N.count
-
-  pub kept-room : {s : Sheet} → NetOf s net₀ → Room (frames_of net₀) slots₀ sides₀ frees₀ words₀ marks₀ → Room (frames_of net) slots sides frees words marks
-  kept-room N R =
-      record {
-        at_slots = omega (arith, kept-count N, R.at_slots, K.same_slots);
-        at_sides = omega (arith, R.at_sides, K.same_sides);
-        at-frees = omega (arith, kept-count N, R.at-frees, K.same-frees);
-        at_words = omega (arith, kept-count N, R.at_words, K.same_words);
-        at_marks = omega (arith, kept-count N, R.at_marks, K.same_marks);
-      }
-
--- ---- tables as they are made, for a net of either form
-
-pub blank-room : {slots sides frees words marks : List ℕ} (most n : ℕ) → n ≤ most → slots ≡ replicate most 0 → sides ≡ replicate 5 0 → frees ≡ replicate most 0
-    → words ≡ replicate most 0 → marks ≡ replicate most 0 → Room n slots sides frees words marks
-blank-room {slots} {sides} {frees} {words} {marks} most n l a b c d e =
-    record {
-      at_slots = omega (arith, ap length a ∙ length-replicate {A = ℕ} most 0);
-      at_sides = omega (arith, ap length b ∙ length-replicate {A = ℕ} 5 0);
-      at-frees = omega (arith, ap length c ∙ length-replicate {A = ℕ} most 0);
-      at_words = omega (arith, ap length d ∙ length-replicate {A = ℕ} most 0);
-      at_marks = omega (arith, ap length e ∙ length-replicate {A = ℕ} most 0);
-    }
+-- ---- how many nodes a net of each form has
 
 pub form_long : {s : Sheet} {net : List ℕ} → NetOf s net → (F : Form) → net_form net ≡ F → length net ≡ net_words F
 form_long N F e = N.long ∙ ap net_words (sym (net-form N) ∙ e)

@@ -8,7 +8,7 @@ use borrow.Author.Tests.{eqb-true, eq-eqb, lt-ltb, ltb-true}
 use Rattle.words.specs.Logic.{tests}
 use Rattle.words.proofs.Logic.{by_bool, clash, and_both}
 use Rattle.words.specs.Word.{bit}
-use Rattle.words.proofs.Word.{bit-and, bit-or, bit-none, bit-pow, bit-ones, bit_complement}
+use Rattle.words.proofs.Bits.{bit-and, bit-or, bit-none, bit-pow, bit-ones, bit_complement}
 use Rattle.words.specs.Mask.{without}
 use Rattle.words.proofs.Mask.{bit-without}
 use Rattle.formula.specs.Assignment.{join}

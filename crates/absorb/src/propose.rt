@@ -1,79 +1,67 @@
 // What is proposed to `try_absorb`: a cone for a node and a variable, and the quantifier. Nothing is proved of it but that it ends, since all of it is tested there.
-ghost use Rattle.std.specs.Prelude.{◌<◌, ◌≤◌, length};
+ghost use Rattle.std.specs.Prelude.{◌<◌, length};
 ghost use Rattle.net.specs.Layout.{frames_of, HasNode, Ground};
-ghost use Rattle.absorb.specs.Cone.{Near};
 
 use crate::cone::free_word;
-use net::{Node, frames, node_at};
-use words::w64;
+use net::{Op, frames, node_at};
+use words::Word;
 
 // The slot of a node of the cone that is computed.
 const COMPUTED: u8 = 6;
 
-const MOST_SIDES: usize = 5;
+pub const MOST_SIDES: usize = 5;
 
 const MOST_WAITING: usize = 64;
 
-// A cone that grows: how many side nodes it has, how many of its gates wait to be looked at, how many steps may be made, and whether it was given up.
+// A cone that grows: how many side nodes it has, and how many of its gates wait to be looked at. A cone that is given up is None.
 #[derive(Clone, Copy)]
-pub struct Growth {
-    pub sides: usize,
-    pub waiting: usize,
-    pub steps: usize,
-    pub lost: bool,
+struct Growth {
+    sides: usize,
+    waiting: usize,
 }
 
-fn lose(growth: Growth) -> Growth {
-    Growth {
-        sides: growth.sides,
-        waiting: growth.waiting,
-        steps: growth.steps,
-        lost: true,
+impl Growth {
+    // One gate that waited is looked at.
+    fn looked_at(self) -> Option<Growth> {
+        Some(Growth {
+            waiting: self.waiting.checked_sub(1)?,
+            ..self
+        })
     }
 }
 
 // Node a is computed, and waits.
-fn wait(slots: &mut [u8], a: usize, growth: Growth) -> Growth
+fn wait(slots: &mut [u8], a: usize, growth: Growth) -> Option<Growth>
     requires { a < length slots.old }
 {
     if growth.waiting >= MOST_WAITING {
-        return lose(growth);
+        return None;
     }
     slots[a] = COMPUTED;
-    Growth {
-        sides: growth.sides,
+    Some(Growth {
         waiting: growth.waiting + 1,
-        steps: growth.steps,
-        lost: growth.lost,
-    }
+        ..growth
+    })
 }
 
-// Node a is side node `from`, and stands for those that are not there.
-fn note_side(sides: &mut [usize], from: usize, a: usize)
-    requires { 5 ≤ length sides.old }
-{
-    let mut i = from;
-    while i < MOST_SIDES {
-        sides[i] = a;
-        i += 1;
-    }
-}
-
-// Node a is a side node.
-fn stand_by(slots: &mut [u8], sides: &mut [usize], a: usize, growth: Growth) -> Growth
-    requires { (a < length slots.old) × (5 ≤ length sides.old) }
+// Node a is a side node, and stands for those that are not there.
+fn stand_by(
+    slots: &mut [u8],
+    sides: &mut [usize; MOST_SIDES],
+    a: usize,
+    growth: Growth,
+) -> Option<Growth>
+    requires { a < length slots.old }
 {
     if growth.sides >= MOST_SIDES {
-        return lose(growth);
+        return None;
     }
-    note_side(sides, growth.sides, a);
+    sides[growth.sides..].fill(a);
     slots[a] = (growth.sides + 1) as u8;
-    Growth {
+    Some(Growth {
         sides: growth.sides + 1,
-        waiting: growth.waiting,
-        steps: growth.steps,
-        lost: growth.lost,
-    }
+        ..growth
+    })
 }
 
 // Node a, which a gate of the cone names, joins it: what does not read y is a side node, but a NOT is computed, so that a node and its negation have one slot.
@@ -82,45 +70,26 @@ fn join(
     frees: &[u64],
     y: u8,
     slots: &mut [u8],
-    sides: &mut [usize],
+    sides: &mut [usize; MOST_SIDES],
     a: usize,
     growth: Growth,
-) -> Growth
-    requires { HasNode net.now a × (y < 64) × (a < length frees.now) × (a < length slots.old) × (5 ≤ length sides.old) }
+) -> Option<Growth>
+    requires { HasNode net.now a × (y < 64) × (a < length frees.now) × (a < length slots.old) }
 {
-    if growth.lost {
-        return growth;
-    }
     if slots[a] != 0 {
-        return growth;
+        return Some(growth);
     }
-    let node = node_at(net, a);
-    if node.op == 3 {
-        return wait(slots, a, growth);
-    }
-    if !w64::has(frees[a], y) {
+    let op = node_at(net, a).op;
+    if op != Op::Not && !frees[a].has(y) {
         return stand_by(slots, sides, a, growth);
     }
-    if node.op == 2 {
-        slots[a] = COMPUTED;
-        return growth;
-    }
-    if node.op > 5 {
-        return lose(growth);
-    }
-    wait(slots, a, growth)
-}
-
-// One gate that waited is looked at.
-fn looked_at(growth: Growth) -> Growth {
-    if growth.waiting == 0 {
-        return lose(growth);
-    }
-    Growth {
-        sides: growth.sides,
-        waiting: growth.waiting - 1,
-        steps: growth.steps,
-        lost: growth.lost,
+    match op {
+        Op::Input => {
+            slots[a] = COMPUTED;
+            Some(growth)
+        }
+        Op::Exists | Op::Forall => None,
+        Op::False | Op::True | Op::Not | Op::And | Op::Or => wait(slots, a, growth),
     }
 }
 
@@ -130,120 +99,66 @@ fn expand(
     frees: &[u64],
     y: u8,
     slots: &mut [u8],
-    sides: &mut [usize],
+    sides: &mut [usize; MOST_SIDES],
     k: usize,
     growth: Growth,
-) -> Growth
-    requires { Ground net.now × (k < frames_of net.now) × (y < 64) × (k < length frees.now) × (k < length slots.old) × (5 ≤ length sides.old) }
+) -> Option<Growth>
+    requires { Ground net.now × (k < frames_of net.now) × (y < 64) × (k < length frees.now) × (k < length slots.old) }
 {
     if slots[k] != COMPUTED {
-        return growth;
+        return Some(growth);
     }
     let node = node_at(net, k);
-    if node.op < 3 {
-        return growth;
-    }
-    let one = join(net, frees, y, slots, sides, node.left, looked_at(growth));
-    if node.op == 3 {
-        return one;
-    }
-    if node.op > 5 {
-        return lose(one);
-    }
-    join(net, frees, y, slots, sides, node.right, one)
-}
-
-// The same, if a step may be made.
-fn step(
-    net: &[u64],
-    frees: &[u64],
-    y: u8,
-    slots: &mut [u8],
-    sides: &mut [usize],
-    k: usize,
-    growth: Growth,
-) -> Growth
-    requires { Ground net.now × (k < frames_of net.now) × (y < 64) × (k < length frees.now) × (k < length slots.old) × (5 ≤ length sides.old) }
-{
-    if growth.steps == 0 {
-        return lose(growth);
-    }
-    let less = Growth {
-        sides: growth.sides,
-        waiting: growth.waiting,
-        steps: growth.steps - 1,
-        lost: growth.lost,
-    };
-    expand(net, frees, y, slots, sides, k, less)
-}
-
-// The first n slots are empty.
-fn wipe(slots: &mut [u8], n: usize)
-    requires { n ≤ length slots.old }
-{
-    let mut k: usize = 0;
-    while k < n {
-        slots[k] = 0;
-        k += 1;
+    match node.op {
+        Op::False | Op::True | Op::Input => Some(growth),
+        Op::Not => join(net, frees, y, slots, sides, node.left, growth.looked_at()?),
+        Op::And | Op::Or => {
+            let one = join(net, frees, y, slots, sides, node.left, growth.looked_at()?)?;
+            join(net, frees, y, slots, sides, node.right, one)
+        }
+        Op::Exists | Op::Forall => None,
     }
 }
 
-// A cone that is node g alone, among the first nodes.
-fn seed(slots: &mut [u8], g: usize)
-    requires { g < length slots.old }
-{
-    wipe(slots, g);
-    slots[g] = COMPUTED;
-}
-
-// The cone of node g over y, from g down to where no gate waits.
+// The cone of node g over y, from g down to where no gate waits; tells how many side nodes it has. A step that is made is taken from the steps that may be.
 pub fn grow(
     net: &[u64],
     g: usize,
     y: u8,
-    steps: usize,
+    steps: &mut usize,
     frees: &[u64],
     slots: &mut [u8],
-    sides: &mut [usize],
-) -> Growth
-    requires { Ground net.now × (g < frames_of net.now) × (y < 64) × (g < length frees.now) × (g < length slots.old) × (5 ≤ length sides.old) }
+    sides: &mut [usize; MOST_SIDES],
+) -> Option<usize>
+    requires { Ground net.now × (g < frames_of net.now) × (y < 64) × (g < length frees.now) × (g < length slots.old) }
 {
-    seed(slots, g);
+    slots[..g].fill(0);
+    slots[g] = COMPUTED;
     let mut growth = Growth {
         sides: 0,
         waiting: 1,
-        steps,
-        lost: false,
     };
-    let mut k = g + 1;
-    while k > 0 {
-        k -= 1;
-        if growth.lost {
-            return growth;
-        }
+    for k in (0..g + 1).rev() {
         if growth.waiting == 0 {
-            return growth;
+            return Some(growth.sides);
         }
-        growth = step(net, frees, y, slots, sides, k, growth);
+        *steps = steps.checked_sub(1)?;
+        growth = expand(net, frees, y, slots, sides, k, growth)?;
     }
-    growth
+    Some(growth.sides)
 }
 
-// The last quantifier above node g that binds y, or 0.
-pub fn binder(net: &[u64], g: usize, y: u8) -> usize
+// The last quantifier above node g that binds y.
+pub fn binder(net: &[u64], g: usize, y: u8) -> Option<usize>
     requires { Ground net.now × (y < 64) }
 {
-    let mut k = frames(net);
-    while k > g {
-        k -= 1;
+    for k in (g..frames(net)).rev() {
         let node = node_at(net, k);
-        if node.op > 5 {
-            if w64::has(node.mask, y) {
-                return k;
-            }
+        if node.op.is_quantifier() && node.mask.has(y) {
+            return Some(k);
         }
     }
-    0
+    None
 }
 
 // The free variables of node k go into the table.

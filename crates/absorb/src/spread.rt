@@ -8,7 +8,7 @@ ghost use Rattle.absorb.specs.Spread.{still, NotedAt, Spreading};
 ghost use Rattle.absorb.specs.Sheet.{Absorbable};
 
 use net::node::{NODES, put};
-use net::{changed, frames, node_at};
+use net::{Op, changed, frames, node_at};
 
 // Bit 3 of a node's first word.
 const CHANGED: u64 = 8;
@@ -19,22 +19,11 @@ fn names_changed(net: &[u64], k: usize) -> bool
     ensures { result ≡ false → Names (still net.now) (packed net.now k) }
 {
     let node = node_at(net, k);
-    if node.op < 3 {
-        return false;
+    match node.op {
+        Op::False | Op::True | Op::Input => false,
+        Op::Not | Op::Exists | Op::Forall => changed(net, node.left),
+        Op::And | Op::Or => changed(net, node.left) || changed(net, node.right),
     }
-    if changed(net, node.left) {
-        return true;
-    }
-    if node.op == 3 {
-        return false;
-    }
-    if node.op > 5 {
-        return false;
-    }
-    if changed(net, node.right) {
-        return true;
-    }
-    false
 }
 
 // Node k is changed if it names a changed one.
@@ -58,11 +47,8 @@ fn spread(net: &mut [u64])
     requires { Ground net.old }
     ensures { Spreading net.old net.new (frames_of net.old) }
 {
-    let n = frames(&net[..]);
-    let mut k: usize = 0;
-    while k < n {
+    for k in 0..frames(&net[..]) {
         spread_at(net, k);
-        k += 1;
     }
 }
 
@@ -71,6 +57,6 @@ pub fn store(net: &mut [u64], g: usize, y: u8)
     requires { ((s : Sheet) × NetOf s net.old) × Absorbable net.old g y }
     ensures { (s : Sheet) → NetOf s net.old → NetOf s net.new }
 {
-    put(net, g, 2 + CHANGED + 16 * (y as u64), 0);
+    put(net, g, Op::Input.code() + CHANGED + 16 * u64::from(y), 0);
     spread(net);
 }

@@ -10,7 +10,7 @@ use Rattle.sheet.specs.Cause.{Cause, accepted, some_holds, Numbered, Foremost}
 use Rattle.sheet.proofs.Cause.{some_append, numbered_append, none_first, first-none, foremost_exactly}
 use Rattle.sheet.specs.Rules.{size_causes, frame_causes}
 use Rattle.sheet.proofs.RuleLaws.{size_numbered, frame_numbered}
-use Rattle.sheet.proofs.Accepted.{none-keeps, keeps-none}
+use Rattle.sheet.proofs.AcceptedLaws.{none-keeps, keeps-none}
 use Rattle.model.specs.Model.{lines}
 use Rattle.model.specs.Script.{Whole}
 use Rattle.certificate.specs.Run.{most_lines, script_causes, room_causes, causes, refusal}

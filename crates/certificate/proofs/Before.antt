@@ -7,7 +7,7 @@ use Rattle.sheet.specs.Fields.{Sheet, variables}
 use Rattle.sheet.specs.Rules.{gauges}
 use Rattle.sheet.specs.Keeps.{Keeps}
 use Rattle.sheet.specs.Accepted.{Accepted}
-use Rattle.sheet.proofs.Accepted.{accepted_exactly, accepted-sheet}
+use Rattle.sheet.proofs.AcceptedLaws.{accepted_exactly, accepted-sheet}
 use Rattle.solver.specs.Contract.{last, root}
 use Rattle.model.specs.declared.Entry.{Entry}
 use Rattle.model.specs.Model.{entered_mask, entered_values}

@@ -8,7 +8,7 @@ use Rattle.sheet.specs.Cause.{some_holds}
 use Rattle.sheet.proofs.Cause.{first_earlier, first-later}
 use Rattle.sheet.specs.Fields.{Sheet, most_frames}
 use Rattle.sheet.specs.Rules.{size_causes}
-use Rattle.sheet.proofs.Accepted.{none_sized}
+use Rattle.sheet.proofs.AcceptedLaws.{none_sized}
 use Rattle.sheet.specs.Places.{Within, Small}
 use Rattle.sheet.proofs.Places.{within_append, within_first, size-within, frames-within}
 use Rattle.certificate.specs.Run.{script_causes, room_causes, refusal}

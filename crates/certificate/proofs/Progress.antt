@@ -175,7 +175,7 @@ module _ (s : Sheet) (script ans : List ℕ) {number place free gauges : ℕ} (c
     run-gauged = checks_gauges c none
 
     pub run-accepted : {open-word : ℕ} {under over : List ℕ} {x : Session} {ans' u o : List ℕ} → Progress s script open-word ans under over (lines script) x ans' u o
-        → Run s script ans under over ans' u o 0 0 x.under x.over
+        → Run s script ans under over ans' u o 0 0 x.kept.under x.kept.over
     unfolding answers
     run-accepted g =
         let r = proper-accepted s script (length ans) proper in

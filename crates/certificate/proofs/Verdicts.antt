@@ -6,7 +6,7 @@ use Rattle.std.proofs.Common.{ap, ◌∙◌, ne_eqb}
 use Rattle.std.proofs.Math.Bool.{true, false, not, and-false}
 use Rattle.words.proofs.Logic.{clash, or_cases}
 use Rattle.words.specs.Word.{bit}
-use Rattle.words.proofs.Word.{bit-and, bit-or, bit-none, ext}
+use Rattle.words.proofs.Bits.{bit-and, bit-or, bit-none, ext}
 use Rattle.words.specs.Mask.{Sub}
 use Rattle.words.proofs.Mask.{bit-without, bits_sub, sub-bits, bits_apart, sub-or-left, sub-or-right}
 use Rattle.formula.specs.Formula.{Formula, free}

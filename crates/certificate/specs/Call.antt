@@ -1,4 +1,4 @@
--- One call of `run` or `run_wide`: what was lent to it, and what it left and told. Assumes nothing.
+-- One call of `run`: what was lent to it, and what it left and told. Assumes nothing.
 use Rattle.std.specs.Prelude.{ℕ, ◌≤◌, ◌≡◌, List, length}
 use Rattle.form.specs.Form.{answer_start}
 use Rattle.sheet.specs.Fields.{Sheet}

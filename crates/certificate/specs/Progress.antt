@@ -27,7 +27,7 @@ pub record LineRun (s : Sheet) (script : List ℕ) (free i : ℕ) (x : Session) 
 
 -- the records that the session x counts in the tables u and o
 abbrev pub records_of : Session → List ℕ → List ℕ → Held
-records_of x u o = record { under = u; cu = x.under; over = o; co = x.over }
+records_of x u o = record { under = u; cu = x.kept.under; over = o; co = x.kept.over }
 
 -- After the first i lines of a run: session and buffers; ans, under and over are the buffers at the start.
 pub record Progress (s : Sheet) (script : List ℕ) (free : ℕ) (ans under over : List ℕ) (i : ℕ) (x : Session) (ans' u o : List ℕ) : Type 0 where

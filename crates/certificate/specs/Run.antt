@@ -1,4 +1,4 @@
--- What a run is refused for, and the contract of `run` and `run_wide` for all inputs. Assumes nothing.
+-- What a run is refused for, and the contract of `run` for all inputs. Assumes nothing.
 use Rattle.std.specs.Prelude.{ℕ, ◌+◌, ◌*◌, ◌%◌, ◌<◌, ◌≡◌, false, not, List, [], ◌∷◌, ◌++◌, length, get_or, drop, eqb, ltb}
 use Rattle.sheet.specs.Refusal as Number
 use Rattle.sheet.specs.Cause.{Cause, Refusal, first}

@@ -1,18 +1,18 @@
 -- Fields at places of a text: the laws of comments, blanks, words and numbers that the code goes by. Assumes nothing.
-use Rattle.std.specs.Prelude.{ℕ, suc, ◌+◌, ◌-◌, ◌*◌, ◌≤◌, ◌<◌, Bool, true, not, cond, ◌&&◌, ◌≡◌, ltb, take}
+use Rattle.std.specs.Prelude.{ℕ, suc, ◌+◌, ◌-◌, ◌≤◌, ◌<◌, Bool, true, not, ◌≡◌}
 use Rattle.std.proofs.Math.Numerals.{add-one}
-use Rattle.std.proofs.Common.{arith, sym, ◌∙◌, get_or-drop, get_or-take}
+use Rattle.std.proofs.Common.{None, Some, arith, sym, ◌∙◌}
 use Rattle.std.proofs.Math.Bool.{false}
 use mathlib.Core.List.{List, [], ◌∷◌}
 use Rattle.std.proofs.Math.Path.{ap}
 use Rattle.std.proofs.Math.Dec.{eqb}
 use Rattle.std.proofs.Math.ListN.{length, get_or, drop, drop_of_length-le}
 use Rattle.std.proofs.Math.Seq.{slice, drop-cons, drop-drop, slice_empty, slice-cons, length-slice}
-use borrow.Author.Tests.{ltb-true, lt-ltb, le-ltb, eq-eqb, ne_eqb}
-use Rattle.words.proofs.Logic.{by_bool, and_both}
-use Rattle.dimacs.specs.Token.{line_feed, blank, separates, behind_comments, after_blanks, word, no_number, digit, with_digit, decimal_from, decimal, is_format, letter_token, negative_token, number_token, token_of, token_here, behind_here, token, behind, Taken}
+use borrow.Author.Tests.{eq-eqb, ne_eqb}
+use Rattle.words.proofs.Logic.{by_bool}
+use Rattle.dimacs.specs.Token.{line_feed, blank, separates, behind_comments, after_blanks, word, with_digit, decimal_from, token_of, token_here, behind_here, token, behind, Taken}
 use Rattle.dimacs.specs.declared.token.Token.{Token}
-use Rattle.dimacs.specs.declared.token.Token.TheVariants.{Line, Format, Other}
+use Rattle.dimacs.specs.declared.token.Token.TheVariants.{Line, Other}
 use Rattle.dimacs.specs.FieldLaws.{SameEnd}
 
 -- ---- comments
@@ -80,98 +80,20 @@ module _ (text : List ℕ) (at : ℕ) (h : at < length text) where
   pub word-go : (from : ℕ) → SameEnd text from at → separates (get_or text at 0) ≡ false → SameEnd text from (at + 1)
   word-go from s e end k w q = s end (omega arith) w (word-longer end k w e q)
 
--- ---- the bytes of a part
-
-module _ (text : List ℕ) (from to : ℕ) (k : to ≤ length text) where
-  part_at : (i : ℕ) → from + i < to → get_or (slice from to text) i 0 ≡ get_or text (from + i) 0
-  part_at i h = get_or-drop from (take to text) i 0 ∙ get_or-take to text (from + i) 0 h
-
-  part-first : from < to → get_or (slice from to text) 0 0 ≡ get_or text from 0
-  part-first h = rw (slice-cons from to text 0 h k)
-
-  part-rest : drop 1 (slice from to text) ≡ slice (from + 1) to text
-  part-rest = drop-drop 1 from (take to text)
-
 -- ---- numbers
 
-pub with_digit-most : (v b : ℕ) → with_digit v b ≤ no_number
-unfolding with_digit
-with_digit-most v b =
-    by_bool (digit b && ltb (v * 10 + (b - 48)) no_number)
-    (λ t. rw t (omega (arith, ltb-true (v * 10 + (b - 48)) no_number (and_both (digit b) (ltb (v * 10 + (b - 48)) no_number) t).1)))
-    (λ f. rw f (omega arith))
-
-pub digits-none : (v : ℕ) (text : List ℕ) (at : ℕ) → decimal_from v (slice at at text) ≡ v
+pub digits-none : (v : ℕ) (w : List ℕ) (i : ℕ) → length w ≤ i → decimal_from v (drop i w) ≡ Some v
 unfolding decimal_from
-digits-none v text at = rw (slice_empty at text)
+digits-none v w i h = rw (drop_of_length-le w h)
 
--- w: the number with the digit at `at`
-module _ (text : List ℕ) (at to : ℕ) (h : at < to) (k : to ≤ length text) {w : ℕ} (v : ℕ) (e : w ≡ with_digit v (get_or text at 0)) where
-  pub digits_stop : w ≡ no_number → decimal_from v (slice at to text) ≡ no_number
+module _ (w : List ℕ) (i : ℕ) (h : i < length w) (v : ℕ) where
+  pub digits_stop : with_digit v (get_or w i 0) ≡ None → decimal_from v (drop i w) ≡ None
   unfolding decimal_from
-  digits_stop q = rw (slice-cons at to text 0 h k, ← e, eq-eqb w no_number q)
+  digits_stop e = rw (drop-cons w i 0 h, e)
 
-  pub digits-go : (w ≡ no_number → ⊥) → decimal_from v (slice at to text) ≡ decimal_from w (slice (at + 1) to text)
+  pub digits-go : {v' : ℕ} → with_digit v (get_or w i 0) ≡ Some v' → decimal_from v (drop i w) ≡ decimal_from v' (drop (i + 1) w)
   unfolding decimal_from
-  digits-go q = rw (slice-cons at to text 0 h k, ← e, ne_eqb w no_number q, add-one at)
-
--- without digits, with a leading zero, or neither
-pub decimal-none : (text : List ℕ) (at : ℕ) → decimal (slice at at text) ≡ no_number
-unfolding decimal
-decimal-none text at = rw (slice_empty at text)
-
-module _ (text : List ℕ) (from to : ℕ) (h : from < to) (k : to ≤ length text) where
-  decimal-some : decimal (slice from to text) ≡ cond (ltb 1 (to - from) && eqb (get_or text from 0) 48) no_number (decimal_from 0 (slice from to text))
-  unfolding decimal
-  decimal-some =
-      let z : eqb (to - from) 0 ≡ false = ne_eqb (to - from) 0 (λ e. omega (arith, e)) in
-      rw (length-slice from to text k, part-first text from to k h, z)
-
-  pub decimal_leading : from + 1 < to → get_or text from 0 ≡ 48 → decimal (slice from to text) ≡ no_number
-  decimal_leading w e = decimal-some ∙ rw (lt-ltb 1 (to - from) (omega arith), eq-eqb (get_or text from 0) 48 e)
-
-  pub decimal-short : to ≤ from + 1 → decimal (slice from to text) ≡ decimal_from 0 (slice from to text)
-  decimal-short w = decimal-some ∙ rw (le-ltb 1 (to - from) (omega arith))
-
-  pub decimal-long : (get_or text from 0 ≡ 48 → ⊥) → decimal (slice from to text) ≡ decimal_from 0 (slice from to text)
-  decimal-long e =
-      decimal-some
-      ∙ by_bool (ltb 1 (to - from)) (λ t. rw (t, ne_eqb (get_or text from 0) 48 e)) (λ f. rw f)
-
--- ---- what a word says
-
-pub format_bytes : (text : List ℕ) (from : ℕ) → from + 3 ≤ length text → is_format (slice from (from + 3) text)
-    ≡ (eqb (get_or text from 0) 99 && (eqb (get_or text (from + 1) 0) 110 && eqb (get_or text (from + 2) 0) 102))
-unfolding is_format
-format_bytes text from k =
-    let three : length (slice from (from + 3) text) ≡ 3 = length-slice from (from + 3) text k ∙ omega arith in
-    rw (three, part-first text from (from + 3) k (omega arith), part_at text from (from + 3) k 1 (omega arith), part_at text from (from + 3) k 2 (omega arith))
-
-module _ (text : List ℕ) (from to : ℕ) (h : from < to) (k : to ≤ length text) where
-  pub format_size : (to - from ≡ 3 → ⊥) → is_format (slice from to text) ≡ false
-  unfolding is_format
-  format_size e = rw (length-slice from to text k, ne_eqb (to - from) 3 e)
-
-  pub format_three : {r : Bool} → to - from ≡ 3 → r ≡ is_format (slice from (from + 3) text) → is_format (slice from to text) ≡ r
-  format_three e f = let n : to ≡ from + 3 = omega arith in rw n (sym f)
-
-  pub says_letter : to - from ≡ 1 → token_of (slice from to text) ≡ letter_token (get_or text from 0)
-  unfolding token_of
-  says_letter e = rw (length-slice from to text k, eq-eqb (to - from) 1 e, part-first text from to k h)
-
-  module _ (e : to - from ≡ 1 → ⊥) where
-    pub says_format : is_format (slice from to text) ≡ true → token_of (slice from to text) ≡ Format
-    unfolding token_of
-    says_format f = rw (length-slice from to text k, ne_eqb (to - from) 1 e, f)
-
-    module _ (f : is_format (slice from to text) ≡ false) where
-      pub says_negative : get_or text from 0 ≡ 45 → token_of (slice from to text) ≡ negative_token (decimal (slice (from + 1) to text))
-      unfolding token_of
-      says_negative m = rw (length-slice from to text k, ne_eqb (to - from) 1 e, f, part-first text from to k h, eq-eqb (get_or text from 0) 45 m, part-rest text from to k)
-
-      pub says_number : (get_or text from 0 ≡ 45 → ⊥) → token_of (slice from to text) ≡ number_token (decimal (slice from to text))
-      unfolding token_of
-      says_number m = rw (length-slice from to text k, ne_eqb (to - from) 1 e, f, part-first text from to k h, ne_eqb (get_or text from 0) 45 m)
+  digits-go e = rw (drop-cons w i 0 h, e, add-one i)
 
 -- ---- a field taken; from: where the blanks before it end
 

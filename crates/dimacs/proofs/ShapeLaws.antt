@@ -1,10 +1,10 @@
 -- The machine of Shape.antt accepts exactly the pages of questions of the right shape. Assumes nothing.
-use Rattle.std.specs.Prelude.{ℕ, zero, suc, ◌-◌, ◌≤◌, ◌<◌, Bool, not, ◌&&◌, ◌≡◌, leb, ltb, length}
+use Rattle.std.specs.Prelude.{ℕ, suc, ◌-◌, ◌≤◌, ◌<◌, Bool, not, ◌&&◌, ◌≡◌, leb, ltb, length}
 use native.Mathlib.Omega.{arith}
 use Rattle.std.proofs.Math.Bool.{true, false, cond}
 use mathlib.Core.List.{List, [], ◌∷◌}
 use Rattle.std.proofs.Math.Path.{refl, ap}
-use Rattle.std.proofs.Common.{sym, ap₂, ◌∙◌}
+use Rattle.std.proofs.Common.{Option, None, Some, sym, ap₂, ◌∙◌}
 use Rattle.std.proofs.Math.Dec.{eqb}
 use borrow.Author.Tests.{lt-ltb, le-leb, ltb-true, leb-true, eqb-true, ne_eqb}
 use Rattle.words.specs.Logic.{tests}
@@ -12,12 +12,14 @@ use Rattle.words.proofs.Logic.{by_bool, clash, and_both, and_intro}
 use Rattle.prenex.specs.Question.{Literal, Block, Clause, Question, Every, every-none, every_one, SomeBelow, Alternating, no_block, innermost, outer, Proper}
 use Rattle.prenex.proofs.CodeLaws.{alternating-inside}
 use Rattle.dimacs.specs.Page.{atom_fields, literal_field, clause_fields, clauses_fields, block_field, blocks_fields, page}
-use Rattle.dimacs.specs.Shape.{number_of, variable_of, is_zero, mark_of, in_range, broken, block_start, clause_start, row_start, step_in, step, run, start, finished, whole}
+use Rattle.dimacs.specs.Shape.{number_of, variable_of, is_zero, is_line, is_problem, is_cnf, begun, same_kind, in_range, broken, block_start, clause_start, row_of, row_start, step_in, step, run, start, finished, whole}
 use Rattle.dimacs.specs.declared.token.Token.{Token}
 use Rattle.dimacs.specs.declared.token.Token.TheVariants.{Line, Problem, Format, Exists, Forall, Number, Negative, Other}
 use Rattle.dimacs.specs.declared.shape.Phase.{Phase}
 use Rattle.dimacs.specs.declared.shape.Phase.TheVariants.{AtProblem, AtFormat, AtVariables, AtCount, AtHeaderEnd, AtRow, AtFirstAtom, AtAtom, AtBlockEnd, AtClause, AtLiteral, AtClauseEnd, Broken}
 use Rattle.dimacs.specs.declared.shape.State.{State}
+use Rattle.dimacs.specs.declared.shape.Quantifier.{Quantifier}
+use Rattle.dimacs.specs.declared.shape.Quantifier.TheVariants as Kind
 use Rattle.dimacs.specs.ShapeLaws.{Shaped}
 
 pub proper_shaped : {q : Question} → Proper q → Shaped q
@@ -36,46 +38,49 @@ abbrev BlocksBelow : ℕ → List Block → Type 0
 BlocksBelow v bs = Every (λ (b : Block). SomeBelow (λ (x : ℕ). x) v b.atoms) bs
 
 -- a state, its fields in a row
-abbrev at : Phase → ℕ → ℕ → ℕ → State
+abbrev at : Phase → ℕ → ℕ → Option Quantifier → State
 at p v n d = record { phase = p; variables = v; left = n; last = d }
 
 -- a block's kind as the machine has it
-abbrev kind_of : Block → ℕ
-kind_of b = cond b.exists 1 2
+abbrev kind : Bool → Quantifier
+kind exists = cond exists Kind.Exists Kind.Forall
 
--- what may follow a block of the kind d (0: before the first): a block of another kind, or the clauses if it was no forall
-data Follows (d : ℕ) : List Block → Type 0 where
-  none-follows : eqb d 2 ≡ false → Follows d []
-  one_follows : {c : Block} {bs : List Block} → eqb d (kind_of c) ≡ false → Follows d (c ∷ bs)
+abbrev kind_of : Block → Quantifier
+kind_of b = kind b.exists
 
-some-kind : (d : Bool) → eqb 0 (cond d 1 2) ≡ false
+-- what may follow a block of the kind d (none: before the first): a block of another kind, or the clauses if it was no forall
+data Follows (d : Option Quantifier) : List Block → Type 0 where
+  none-follows : same_kind d Kind.Forall ≡ false → Follows d []
+  one_follows : {c : Block} {bs : List Block} → same_kind d (kind_of c) ≡ false → Follows d (c ∷ bs)
+
+some-kind : (d : Bool) → same_kind None (kind d) ≡ false
 some-kind true = refl
 some-kind false = refl
 
 -- blocks alternate if each may follow the one before
-alternating-follows : {b : Block} {bs : List Block} → Alternating (b ∷ bs) → Follows (kind_of b) bs
+alternating-follows : {b : Block} {bs : List Block} → Alternating (b ∷ bs) → Follows (Some (kind_of b)) bs
 alternating-follows (innermost e) = none-follows (rw e refl)
 alternating-follows (outer {b} {c} {bs} e a) = one_follows (other c.exists b.exists e)
   where
-    other : (y x : Bool) → x ≡ not y → eqb (cond x 1 2) (cond y 1 2) ≡ false
+    other : (y x : Bool) → x ≡ not y → same_kind (Some (kind x)) (kind y) ≡ false
     other true x e = rw e refl
     other false x e = rw e refl
 
 -- before the first block
-follows-none : {bs : List Block} → Alternating bs → Follows 0 bs
+follows-none : {bs : List Block} → Alternating bs → Follows None bs
 follows-none no_block = none-follows refl
 follows-none (innermost {b} e) = one_follows (some-kind b.exists)
 follows-none (outer {b} e a) = one_follows (some-kind b.exists)
 
-follows-alternating : {b : Block} {bs : List Block} → Follows (kind_of b) bs → Alternating bs → Alternating (b ∷ bs)
+follows-alternating : {b : Block} {bs : List Block} → Follows (Some (kind_of b)) bs → Alternating bs → Alternating (b ∷ bs)
 follows-alternating {b} (none-follows e) a = innermost (last b.exists e)
   where
-    last : (x : Bool) → eqb (cond x 1 2) 2 ≡ false → x ≡ true
+    last : (x : Bool) → same_kind (Some (kind x)) Kind.Forall ≡ false → x ≡ true
     last true e = refl
     last false e = sym e
 follows-alternating {b} (one_follows {c} e) a = outer (other b.exists c.exists e) a
   where
-    other : (x y : Bool) → eqb (cond x 1 2) (cond y 1 2) ≡ false → x ≡ not y
+    other : (x y : Bool) → same_kind (Some (kind x)) (kind y) ≡ false → x ≡ not y
     other true true e = e
     other true false e = refl
     other false true e = refl
@@ -83,28 +88,60 @@ follows-alternating {b} (one_follows {c} e) a = outer (other b.exists c.exists e
 
 -- ---- what a test shows of a field
 
--- the field that has a mark
-of_mark : ℕ → Token
-of_mark zero = Other
-of_mark (suc zero) = Line
-of_mark (suc (suc zero)) = Problem
-of_mark (suc (suc (suc zero))) = Format
-of_mark (suc (suc (suc (suc zero)))) = Exists
-of_mark (suc (suc (suc (suc (suc n))))) = Forall
+line_is : (t : Token) → is_line t ≡ true → t ≡ Line
+unfolding is_line
+line_is Line e = refl
+line_is Problem e = cc
+line_is Format e = cc
+line_is Exists e = cc
+line_is Forall e = cc
+line_is (Number n) e = cc
+line_is (Negative n) e = cc
+line_is Other e = cc
 
-marked : (t : Token) → 0 < mark_of t → t ≡ of_mark (mark_of t)
-unfolding mark_of of_mark
-marked Line h = refl
-marked Problem h = refl
-marked Format h = refl
-marked Exists h = refl
-marked Forall h = refl
-marked (Number n) h = absurd (omega arith)
-marked (Negative n) h = absurd (omega arith)
-marked Other h = absurd (omega arith)
+problem_is : (t : Token) → is_problem t ≡ true → t ≡ Problem
+unfolding is_problem
+problem_is Line e = cc
+problem_is Problem e = refl
+problem_is Format e = cc
+problem_is Exists e = cc
+problem_is Forall e = cc
+problem_is (Number n) e = cc
+problem_is (Negative n) e = cc
+problem_is Other e = cc
 
-mark-is : (t : Token) (m : ℕ) → eqb (mark_of t) (suc m) ≡ true → t ≡ of_mark (suc m)
-mark-is t m e = let k = eqb-true (mark_of t) (suc m) e in marked t (omega (arith, k)) ∙ ap of_mark k
+cnf_is : (t : Token) → is_cnf t ≡ true → t ≡ Format
+unfolding is_cnf
+cnf_is Line e = cc
+cnf_is Problem e = cc
+cnf_is Format e = refl
+cnf_is Exists e = cc
+cnf_is Forall e = cc
+cnf_is (Number n) e = cc
+cnf_is (Negative n) e = cc
+cnf_is Other e = cc
+
+exists_is : (t : Token) → begun t ≡ Some Kind.Exists → t ≡ Exists
+unfolding begun
+exists_is Line e = cc
+exists_is Problem e = cc
+exists_is Format e = cc
+exists_is Exists e = refl
+exists_is Forall e = cc
+exists_is (Number n) e = cc
+exists_is (Negative n) e = cc
+exists_is Other e = cc
+
+forall_is : (t : Token) → begun t ≡ Some Kind.Forall → t ≡ Forall
+unfolding begun
+forall_is Line e = cc
+forall_is Problem e = cc
+forall_is Format e = cc
+forall_is Exists e = cc
+forall_is Forall e = refl
+forall_is (Number n) e = cc
+forall_is (Negative n) e = cc
+forall_is Other e = cc
 
 zero_is : (t : Token) → is_zero t ≡ true → t ≡ Number 0
 unfolding is_zero
@@ -162,25 +199,25 @@ literal-some : (l : Literal) → is_zero (literal_field l) ≡ false
 unfolding is_zero literal_field
 literal-some l = by_bool l.negative (λ e. rw e refl) (λ e. rw e (some_number (suc l.variable) (omega arith)))
 
-pub literal_mark : (l : Literal) → mark_of (literal_field l) ≡ 0
-unfolding mark_of literal_field
-literal_mark l = by_bool l.negative (λ e. rw e refl) (λ e. rw e refl)
+literal-begins : (l : Literal) → begun (literal_field l) ≡ None
+unfolding begun literal_field
+literal-begins l = by_bool l.negative (λ e. rw e refl) (λ e. rw e refl)
 
-module _ (v n d : ℕ) where
+module _ (v n : ℕ) (d : Option Quantifier) where
   first-literal : (l : Literal) → l.variable < v → 1 ≤ n → step (at AtClause v n d) (literal_field l) ≡ at AtLiteral v n d
   unfolding step step_in
   first-literal l k h = rw (lt-ltb 0 n h, literal-variable l, range_in v l.variable k) refl
 
-  row_literal : (l : Literal) → l.variable < v → 1 ≤ n → eqb d 2 ≡ false → step (at AtRow v n d) (literal_field l) ≡ at AtLiteral v n d
+  row_literal : (l : Literal) → l.variable < v → 1 ≤ n → same_kind d Kind.Forall ≡ false → step (at AtRow v n d) (literal_field l) ≡ at AtLiteral v n d
   unfolding step step_in
-  row_literal l k h e = rw (literal_mark l, e, lt-ltb 0 n h, literal-variable l, range_in v l.variable k) refl
+  row_literal l k h e = rw (literal-begins l, e, lt-ltb 0 n h, literal-variable l, range_in v l.variable k) refl
 
   next-literal : (l : Literal) → l.variable < v → step (at AtLiteral v n d) (literal_field l) ≡ at AtLiteral v n d
   unfolding step step_in
   next-literal l k = rw (literal-some l, literal-variable l, range_in v l.variable k) refl
 
   clause-ends : 1 ≤ n → step (at AtClauseEnd v n d) Line ≡ at AtClause v (n - 1) d
-  unfolding step step_in mark_of
+  unfolding step step_in is_line
   clause-ends h = rw (lt-ltb 0 n h) refl
 
   first_atom : (x : ℕ) → x < v → step (at AtFirstAtom v n d) (Number (suc x)) ≡ at AtAtom v n d
@@ -191,8 +228,8 @@ module _ (v n d : ℕ) where
   unfolding step step_in number_of is_zero
   next_atom x k = rw (some_number (suc x) (omega arith), range_in v x k) refl
 
-  kind_starts : (b : Bool) → eqb d (cond b 1 2) ≡ false → step (at AtRow v n d) (block_field b) ≡ at AtFirstAtom v n (cond b 1 2)
-  unfolding step step_in block_field mark_of
+  kind_starts : (b : Bool) → same_kind d (kind b) ≡ false → step (at AtRow v n d) (block_field b) ≡ at AtFirstAtom v n (Some (kind b))
+  unfolding step step_in block_field begun
   kind_starts true e = rw e refl
   kind_starts false e = rw e refl
 
@@ -204,7 +241,7 @@ module _ (v n d : ℕ) where
   unfolding step step_in number_of
   count-told k h = rw (some_number k h) refl
 
-module _ (v n d : ℕ) where
+module _ (v n : ℕ) (d : Option Quantifier) where
   literals-run : (c : Clause) (rest : List Token) → LiteralsBelow v c → 1 ≤ n
       → run (at AtLiteral v n d) (clause_fields c rest) ≡ run (at AtClause v (n - 1) d) rest
   unfolding run step step_in clause_fields is_zero
@@ -223,7 +260,7 @@ module _ (v n d : ℕ) where
 
   atoms-run : (xs : List ℕ) (rest : List Token) → AtomsBelow v xs
       → run (at AtAtom v n d) (atom_fields xs rest) ≡ run (at AtRow v n d) rest
-  unfolding run step step_in atom_fields is_zero mark_of
+  unfolding run step step_in atom_fields is_zero is_line
   atoms-run [] rest every-none = refl
   atoms-run (x ∷ xs) rest (every_one k ks) = ap (λ (s : State). run s (atom_fields xs rest)) (next_atom v n d x k) ∙ atoms-run xs rest ks
 
@@ -234,7 +271,7 @@ module _ (v n d : ℕ) where
   block_run (x ∷ xs) rest i (every_one k ks) = ap (λ (s : State). run s (atom_fields xs rest)) (first_atom v n d x k) ∙ atoms-run xs rest ks
 
 module _ (v : ℕ) where
-  clauses-run : (n d : ℕ) (cs : List Clause) → length cs ≡ n → ClausesBelow v cs → run (at AtClause v n d) (clauses_fields cs) ≡ at AtClause v 0 d
+  clauses-run : (n : ℕ) (d : Option Quantifier) (cs : List Clause) → length cs ≡ n → ClausesBelow v cs → run (at AtClause v n d) (clauses_fields cs) ≡ at AtClause v 0 d
   unfolding run clauses_fields
   clauses-run n d [] e every-none = ap (λ (k : ℕ). at AtClause v k d) (sym e)
   clauses-run n d (c ∷ cs) e (every_one k ks) =
@@ -242,7 +279,7 @@ module _ (v : ℕ) where
       ∙ clauses-run (n - 1) d cs (omega (arith, e)) ks
 
   -- the first clause, where a block could be
-  matrix-run : (n d : ℕ) (cs : List Clause) → eqb d 2 ≡ false → 1 ≤ n → length cs ≡ n → ClausesBelow v cs
+  matrix-run : (n : ℕ) (d : Option Quantifier) (cs : List Clause) → same_kind d Kind.Forall ≡ false → 1 ≤ n → length cs ≡ n → ClausesBelow v cs
       → run (at AtRow v n d) (clauses_fields cs) ≡ at AtClause v 0 d
   unfolding clauses_fields
   matrix-run n d [] f h e every-none = absurd (omega (arith, h, e))
@@ -250,16 +287,16 @@ module _ (v : ℕ) where
       clause_run v n d (at AtRow v n d) (λ l i. row_literal v n d l i h f) c (clauses_fields cs) k.some k.below h
       ∙ clauses-run (n - 1) d cs (omega (arith, e)) ks
 
-  blocks-run : (n d : ℕ) (bs : List Block) (cs : List Clause) → Follows d bs → Alternating bs → BlocksBelow v bs → 1 ≤ n → length cs ≡ n → ClausesBelow v cs
-      → (k : ℕ) × (run (at AtRow v n d) (blocks_fields bs (clauses_fields cs)) ≡ at AtClause v 0 k)
+  blocks-run : (n : ℕ) (d : Option Quantifier) (bs : List Block) (cs : List Clause) → Follows d bs → Alternating bs → BlocksBelow v bs → 1 ≤ n → length cs ≡ n → ClausesBelow v cs
+      → (k : Option Quantifier) × (run (at AtRow v n d) (blocks_fields bs (clauses_fields cs)) ≡ at AtClause v 0 k)
   unfolding run blocks_fields
   blocks-run n d [] cs (none-follows f) a every-none h e k = (d, matrix-run n d cs f h e k)
   blocks-run n d (b ∷ bs) cs (one_follows f) a (every_one i is) h e k =
       let rest = blocks_fields bs (clauses_fields cs) in
-      let r = blocks-run n (kind_of b) bs cs (alternating-follows a) (alternating-inside a) is h e k in (
+      let r = blocks-run n (Some (kind_of b)) bs cs (alternating-follows a) (alternating-inside a) is h e k in (
         r.0,
         ap (λ (s : State). run s (atom_fields b.atoms rest)) (kind_starts v n d b.exists f)
-            ∙ block_run v n (kind_of b) b.atoms rest i.some i.below
+            ∙ block_run v n (Some (kind_of b)) b.atoms rest i.some i.below
             ∙ r.1,
       )
 
@@ -272,16 +309,16 @@ some-variable {v} (c ∷ cs) h (every_one k ks) = literal c k.some k.below
     literal [] i every-none = absurd (omega arith)
     literal (l ∷ c) i (every_one b bs) = omega (arith, b)
 
-page-run : (q : Question) → Shaped q → (k : ℕ) × (run start (page q) ≡ at AtClause q.variables 0 k)
-unfolding run step step_in mark_of page
+page-run : (q : Question) → Shaped q → (k : Option Quantifier) × (run start (page q) ≡ at AtClause q.variables 0 k)
+unfolding run step step_in is_line is_problem is_cnf page
 page-run q s =
     let v = q.variables in
     let n = length q.clauses in
     let rest = blocks_fields q.blocks (clauses_fields q.clauses) in
-    let r = blocks-run v n 0 q.blocks q.clauses (follows-none s.alternating) s.alternating s.blocks-below s.some-clause refl s.clauses-below in (
+    let r = blocks-run v n None q.blocks q.clauses (follows-none s.alternating) s.alternating s.blocks-below s.some-clause refl s.clauses-below in (
       r.0,
-      ap (λ (a : State). run a (Number n ∷ Line ∷ rest)) (variables-told 0 0 0 v (some-variable q.clauses s.some-clause s.clauses-below))
-          ∙ ap (λ (a : State). run a (Line ∷ rest)) (count-told v 0 0 n s.some-clause)
+      ap (λ (a : State). run a (Number n ∷ Line ∷ rest)) (variables-told 0 0 None v (some-variable q.clauses s.some-clause s.clauses-below))
+          ∙ ap (λ (a : State). run a (Line ∷ rest)) (count-told v 0 None n s.some-clause)
           ∙ r.1,
     )
 
@@ -334,7 +371,7 @@ record Literals (v n : ℕ) (ts : List Token) : Type 0 where
   fields : ts ≡ clause_fields literals rest
   behind : Clauses v (n - 1) rest
 
-record Rows (v n d : ℕ) (ts : List Token) : Type 0 where
+record Rows (v n : ℕ) (d : Option Quantifier) (ts : List Token) : Type 0 where
   blocks : List Block
   rest : List Token
   some : 1 ≤ n
@@ -345,7 +382,7 @@ record Rows (v n d : ℕ) (ts : List Token) : Type 0 where
   behind : Clauses v n rest
 
 -- the atoms left of a block
-record Atoms (v n d : ℕ) (ts : List Token) : Type 0 where
+record Atoms (v n : ℕ) (d : Option Quantifier) (ts : List Token) : Type 0 where
   atoms : List ℕ
   rest : List Token
   below : AtomsBelow v atoms
@@ -356,16 +393,16 @@ record Atoms (v n d : ℕ) (ts : List Token) : Type 0 where
 abbrev SomeLiterals : ℕ → ℕ → List Token → Type 0
 SomeLiterals v n ts = (s : Literals v n ts) × (1 ≤ length s.literals)
 
-abbrev SomeAtoms : ℕ → ℕ → ℕ → List Token → Type 0
+abbrev SomeAtoms : ℕ → ℕ → Option Quantifier → List Token → Type 0
 SomeAtoms v n d ts = (s : Atoms v n d ts) × (1 ≤ length s.atoms)
 
-abbrev FromCount : ℕ → ℕ → List Token → Type 0
+abbrev FromCount : ℕ → Option Quantifier → List Token → Type 0
 FromCount v d ts = (n : ℕ) × Behind (Number n) (Behind Line (Rows v n d)) ts
 
-abbrev FromVariables : ℕ → List Token → Type 0
+abbrev FromVariables : Option Quantifier → List Token → Type 0
 FromVariables d ts = (v : ℕ) × Behind (Number v) (FromCount v d) ts
 
-unfoldable From : Phase → ℕ → ℕ → ℕ → List Token → Type 0
+unfoldable From : Phase → ℕ → ℕ → Option Quantifier → List Token → Type 0
 From AtProblem v n d ts = Behind Problem (Behind Format (FromVariables d)) ts
 From AtFormat v n d ts = Behind Format (FromVariables d) ts
 From AtVariables v n d ts = FromVariables d ts
@@ -381,7 +418,7 @@ From AtClauseEnd v n d ts = (1 ≤ n) × Behind Line (Clauses v (n - 1)) ts
 From Broken v n d ts = ⊥
 
 -- behind the last field
-from-none : (p : Phase) (v n d : ℕ) → whole (at p v n d) ≡ true → From p v n d []
+from-none : (p : Phase) (v n : ℕ) (d : Option Quantifier) → whole (at p v n d) ≡ true → From p v n d []
 unfolding whole finished From clauses_fields
 from-none AtProblem v n d h = clash false h refl
 from-none AtFormat v n d h = clash false h refl
@@ -402,8 +439,8 @@ cons_both = ap₂ {C = List Token} (λ (a : Token) (l : List Token). a ∷ l)
 
 -- a field, found by its test, in front of what the others are
 module _ (t : Token) (ts : List Token) where
-  mark_found : (m : ℕ) (P : List Token → Type 0) → eqb (mark_of t) (suc m) ≡ true → P ts → Behind (of_mark (suc m)) P (t ∷ ts)
-  mark_found m P e h = record { rest = ts; fields = cons_both (mark-is t m e) refl; behind = h }
+  field_found : {a : Token} (P : List Token → Type 0) → t ≡ a → P ts → Behind a P (t ∷ ts)
+  field_found P e h = record { rest = ts; fields = cons_both e refl; behind = h }
 
   number-found : (P : List Token → Type 0) → eqb (number_of t) 0 ≡ false → P ts → Behind (Number (number_of t)) P (t ∷ ts)
   number-found P e h =
@@ -425,7 +462,7 @@ module _ (t : Token) (ts : List Token) where
         omega arith,
       )
 
-  atom_found : {v n d : ℕ} → in_range v (number_of t) ≡ true → Atoms v n d ts → SomeAtoms v n d (t ∷ ts)
+  atom_found : {v n : ℕ} {d : Option Quantifier} → in_range v (number_of t) ≡ true → Atoms v n d ts → SomeAtoms v n d (t ∷ ts)
   unfolding atom_fields
   atom_found {v} e s =
       let k = in-range v (number_of t) e in
@@ -453,7 +490,7 @@ module _ (t : Token) (ts : List Token) where
         behind = s.1.behind;
       }
 
-  block_end_found : {v n d : ℕ} → is_zero t ≡ true → Behind Line (Rows v n d) ts → Atoms v n d (t ∷ ts)
+  block_end_found : {v n : ℕ} {d : Option Quantifier} → is_zero t ≡ true → Behind Line (Rows v n d) ts → Atoms v n d (t ∷ ts)
   unfolding atom_fields
   block_end_found e s =
       record {
@@ -464,7 +501,7 @@ module _ (t : Token) (ts : List Token) where
         behind = s.behind;
       }
 
-  block_found : {v n d : ℕ} (b : Bool) → t ≡ block_field b → eqb d (cond b 1 2) ≡ false → SomeAtoms v n (cond b 1 2) ts → Rows v n d (t ∷ ts)
+  block_found : {v n : ℕ} {d : Option Quantifier} (b : Bool) → t ≡ block_field b → same_kind d (kind b) ≡ false → SomeAtoms v n (Some (kind b)) ts → Rows v n d (t ∷ ts)
   unfolding blocks_fields
   block_found b e f s =
       let r = s.0.behind in
@@ -490,7 +527,7 @@ clause_found s =
       fields = s.0.fields ∙ ap (clause_fields s.0.literals) r.fields;
     }
 
-matrix-found : {v n d : ℕ} {ts : List Token} → eqb d 2 ≡ false → SomeLiterals v n ts → Rows v n d ts
+matrix-found : {v n : ℕ} {d : Option Quantifier} {ts : List Token} → same_kind d Kind.Forall ≡ false → SomeLiterals v n ts → Rows v n d ts
 unfolding blocks_fields
 matrix-found {ts = ts} e s =
     record {
@@ -506,10 +543,10 @@ matrix-found {ts = ts} e s =
 
 -- what the fields from each phase on are
 abbrev Found : List Token → Type 0
-Found ts = (p : Phase) (v n d : ℕ) → whole (run (at p v n d) ts) ≡ true → From p v n d ts
+Found ts = (p : Phase) (v n : ℕ) (d : Option Quantifier) → whole (run (at p v n d) ts) ≡ true → From p v n d ts
 
 -- one field more
-module _ (t : Token) (ts : List Token) (others : Found ts) (v n d : ℕ) where
+module _ (t : Token) (ts : List Token) (others : Found ts) (v n : ℕ) (d : Option Quantifier) where
   -- a clause's first literal, where a clause or a row begins
   first_found : (p : Phase) → whole (run (clause_start (at p v n d) t) ts) ≡ true → SomeLiterals v n (t ∷ ts)
   unfolding From
@@ -517,31 +554,32 @@ module _ (t : Token) (ts : List Token) (others : Found ts) (v n d : ℕ) where
       let k = passes (ltb 0 n && in_range v (variable_of t)) (at AtLiteral v n d) (at p v n d) ts h in
       literal-found t ts (and_both (ltb 0 n) (in_range v (variable_of t)) k.0).1 (others AtLiteral v n d k.1)
 
-  block_start-found : (b : Bool) → t ≡ block_field b → whole (run (block_start (at AtRow v n d) (cond b 1 2)) ts) ≡ true → Rows v n d (t ∷ ts)
+  block_start-found : (b : Bool) → t ≡ block_field b → whole (run (block_start (at AtRow v n d) (kind b)) ts) ≡ true → Rows v n d (t ∷ ts)
   unfolding From
   block_start-found b e h =
-      let k = refuses (eqb d (cond b 1 2)) (at AtFirstAtom v n (cond b 1 2)) (at AtRow v n d) ts h in
-      block_found t ts b e k.0 (others AtFirstAtom v n (cond b 1 2) k.1)
+      let k = refuses (same_kind d (kind b)) (at AtFirstAtom v n (Some (kind b))) (at AtRow v n d) ts h in
+      block_found t ts b e k.0 (others AtFirstAtom v n (Some (kind b)) k.1)
 
   row_found : whole (run (row_start (at AtRow v n d) t) ts) ≡ true → Rows v n d (t ∷ ts)
-  unfolding block_field of_mark
-  row_found h =
-      let s = at AtRow v n d in
-      let c = cond (eqb d 2) (broken s) (clause_start s t) in
-      either (eqb (mark_of t) 4) (block_start s 1) (cond (eqb (mark_of t) 5) (block_start s 2) c) ts h
-      (λ e. block_start-found true (mark-is t 3 e))
-      (λ _ i. either (eqb (mark_of t) 5) (block_start s 2) c ts i
-      (λ e. block_start-found false (mark-is t 4 e))
-      (λ _ j. let k = refuses (eqb d 2) (clause_start s t) s ts j in matrix-found k.0 (first_found AtRow k.1)))
+  unfolding block_field
+  row_found h = go (begun t) refl h
+    where
+      s : State
+      s = at AtRow v n d
+
+      go : (k : Option Quantifier) → begun t ≡ k → whole (run (row_of s t k) ts) ≡ true → Rows v n d (t ∷ ts)
+      go (Some Kind.Exists) e i = block_start-found true (exists_is t e) i
+      go (Some Kind.Forall) e i = block_start-found false (forall_is t e) i
+      go None e i = let k = refuses (same_kind d Kind.Forall) (clause_start s t) s ts i in matrix-found k.0 (first_found AtRow k.1)
 
   from_some : (p : Phase) → whole (run (step (at p v n d) t) ts) ≡ true → From p v n d (t ∷ ts)
-  unfolding step step_in From of_mark
+  unfolding step step_in From
   from_some AtProblem h =
-      let k = passes (eqb (mark_of t) 2) (at AtFormat v n d) (at AtProblem v n d) ts h in
-      mark_found t ts 1 (Behind Format (FromVariables d)) k.0 (others AtFormat v n d k.1)
+      let k = passes (is_problem t) (at AtFormat v n d) (at AtProblem v n d) ts h in
+      field_found t ts (Behind Format (FromVariables d)) (problem_is t k.0) (others AtFormat v n d k.1)
   from_some AtFormat h =
-      let k = passes (eqb (mark_of t) 3) (at AtVariables v n d) (at AtFormat v n d) ts h in
-      mark_found t ts 2 (FromVariables d) k.0 (others AtVariables v n d k.1)
+      let k = passes (is_cnf t) (at AtVariables v n d) (at AtFormat v n d) ts h in
+      field_found t ts (FromVariables d) (cnf_is t k.0) (others AtVariables v n d k.1)
   from_some AtVariables h =
       let k = refuses (eqb (number_of t) 0) (at AtCount (number_of t) n d) (at AtVariables v n d) ts h in
       (number_of t, number-found t ts (FromCount (number_of t) d) k.0 (others AtCount (number_of t) n d k.1))
@@ -549,8 +587,8 @@ module _ (t : Token) (ts : List Token) (others : Found ts) (v n d : ℕ) where
       let k = refuses (eqb (number_of t) 0) (at AtHeaderEnd v (number_of t) d) (at AtCount v n d) ts h in
       (number_of t, number-found t ts (Behind Line (Rows v (number_of t) d)) k.0 (others AtHeaderEnd v (number_of t) d k.1))
   from_some AtHeaderEnd h =
-      let k = passes (eqb (mark_of t) 1) (at AtRow v n d) (at AtHeaderEnd v n d) ts h in
-      mark_found t ts 0 (Rows v n d) k.0 (others AtRow v n d k.1)
+      let k = passes (is_line t) (at AtRow v n d) (at AtHeaderEnd v n d) ts h in
+      field_found t ts (Rows v n d) (line_is t k.0) (others AtRow v n d k.1)
   from_some AtRow h = row_found h
   from_some AtFirstAtom h =
       let k = passes (in_range v (number_of t)) (at AtAtom v n d) (at AtFirstAtom v n d) ts h in
@@ -561,8 +599,8 @@ module _ (t : Token) (ts : List Token) (others : Found ts) (v n d : ℕ) where
       (λ e i. block_end_found t ts e (others AtBlockEnd v n d i))
       (λ _ i. let k = passes (in_range v (number_of t)) s s ts i in (atom_found t ts k.0 (others AtAtom v n d k.1)).0)
   from_some AtBlockEnd h =
-      let k = passes (eqb (mark_of t) 1) (at AtRow v n d) (at AtBlockEnd v n d) ts h in
-      mark_found t ts 0 (Rows v n d) k.0 (others AtRow v n d k.1)
+      let k = passes (is_line t) (at AtRow v n d) (at AtBlockEnd v n d) ts h in
+      field_found t ts (Rows v n d) (line_is t k.0) (others AtRow v n d k.1)
   from_some AtClause h = clause_found (first_found AtClause h)
   from_some AtLiteral h =
       let s = at AtLiteral v n d in
@@ -570,9 +608,9 @@ module _ (t : Token) (ts : List Token) (others : Found ts) (v n d : ℕ) where
       (λ e i. clause_end_found t ts e (others AtClauseEnd v n d i))
       (λ _ i. let k = passes (in_range v (variable_of t)) s s ts i in (literal-found t ts k.0 (others AtLiteral v n d k.1)).0)
   from_some AtClauseEnd h =
-      let k = passes (ltb 0 n && eqb (mark_of t) 1) (at AtClause v (n - 1) d) (at AtClauseEnd v n d) ts h in
-      let i = and_both (ltb 0 n) (eqb (mark_of t) 1) k.0 in
-      (ltb-true 0 n i.0, mark_found t ts 0 (Clauses v (n - 1)) i.1 (others AtClause v (n - 1) d k.1))
+      let k = passes (ltb 0 n && is_line t) (at AtClause v (n - 1) d) (at AtClauseEnd v n d) ts h in
+      let i = and_both (ltb 0 n) (is_line t) k.0 in
+      (ltb-true 0 n i.0, field_found t ts (Clauses v (n - 1)) (line_is t i.1) (others AtClause v (n - 1) d k.1))
   from_some Broken h = clash (whole (run (at Broken v n d) ts)) h (broken-stays (at Broken v n d) ts)
 
 from : (ts : List Token) → Found ts
@@ -581,7 +619,7 @@ from [] p v n d h = from-none p v n d h
 from (t ∷ ts) p v n d h = from_some t ts (from ts) v n d p h
 
 -- a problem line, and rows behind it
-page_of : {v n d : ℕ} {ts rest : List Token} → ts ≡ Problem ∷ Format ∷ Number v ∷ Number n ∷ Line ∷ rest → Rows v n d rest
+page_of : {v n : ℕ} {d : Option Quantifier} {ts rest : List Token} → ts ≡ Problem ∷ Format ∷ Number v ∷ Number n ∷ Line ∷ rest → Rows v n d rest
     → (q : Question) × Shaped q × (ts ≡ page q)
 unfolding page
 page_of {v} {n} {d} {ts} {rest} e r =
@@ -595,7 +633,7 @@ page_of {v} {n} {d} {ts} {rest} e r =
 pub whole-page : (ts : List Token) → whole (run start ts) ≡ true → (q : Question) × Shaped q × (ts ≡ page q)
 unfolding From
 whole-page ts h =
-    let a = from ts AtProblem 0 0 0 h in
+    let a = from ts AtProblem 0 0 None h in
     let b = a.behind in
     let c = b.behind.1 in
     let e = c.behind.1 in

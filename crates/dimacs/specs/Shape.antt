@@ -1,10 +1,12 @@
 -- The shape of a text's fields, as a machine that takes one field after the other. Assumes nothing.
-use Rattle.std.specs.Prelude.{ℕ, ◌-◌, Bool, true, false, cond, ◌&&◌, List, [], ◌∷◌, eqb, leb, ltb}
+use Rattle.std.specs.Prelude.{ℕ, ◌-◌, Bool, true, false, cond, ◌&&◌, List, [], ◌∷◌, eqb, leb, ltb, Option, None, Some}
 use Rattle.dimacs.specs.declared.token.Token.{Token}
 use Rattle.dimacs.specs.declared.token.Token.TheVariants.{Line, Problem, Format, Exists, Forall, Number, Negative, Other}
 use Rattle.dimacs.specs.declared.shape.Phase.{Phase}
 use Rattle.dimacs.specs.declared.shape.Phase.TheVariants.{AtProblem, AtFormat, AtVariables, AtCount, AtHeaderEnd, AtRow, AtFirstAtom, AtAtom, AtBlockEnd, AtClause, AtLiteral, AtClauseEnd, Broken}
 use Rattle.dimacs.specs.declared.shape.State.{State}
+use Rattle.dimacs.specs.declared.shape.Quantifier.{Quantifier}
+use Rattle.dimacs.specs.declared.shape.Quantifier.TheVariants as Kind
 
 -- ---- what a field is
 
@@ -40,16 +42,46 @@ is_zero (Number n) = eqb n 0
 is_zero (Negative n) = false
 is_zero Other = false
 
--- fields that hold no number, as codes
-unfoldable pub mark_of : Token → ℕ
-mark_of Line = 1
-mark_of Problem = 2
-mark_of Format = 3
-mark_of Exists = 4
-mark_of Forall = 5
-mark_of (Number n) = 0
-mark_of (Negative n) = 0
-mark_of Other = 0
+unfoldable pub is_line : Token → Bool
+is_line Line = true
+is_line Problem = false
+is_line Format = false
+is_line Exists = false
+is_line Forall = false
+is_line (Number n) = false
+is_line (Negative n) = false
+is_line Other = false
+
+unfoldable pub is_problem : Token → Bool
+is_problem Line = false
+is_problem Problem = true
+is_problem Format = false
+is_problem Exists = false
+is_problem Forall = false
+is_problem (Number n) = false
+is_problem (Negative n) = false
+is_problem Other = false
+
+unfoldable pub is_cnf : Token → Bool
+is_cnf Line = false
+is_cnf Problem = false
+is_cnf Format = true
+is_cnf Exists = false
+is_cnf Forall = false
+is_cnf (Number n) = false
+is_cnf (Negative n) = false
+is_cnf Other = false
+
+-- the kind of the block that a field begins
+unfoldable pub begun : Token → Option Quantifier
+begun Line = None
+begun Problem = None
+begun Format = None
+begun Exists = Some Kind.Exists
+begun Forall = Some Kind.Forall
+begun (Number n) = None
+begun (Negative n) = None
+begun Other = None
 
 -- from 1 to the highest variable
 abbrev pub in_range : ℕ → ℕ → Bool
@@ -66,20 +98,29 @@ broken s = into s Broken
 abbrev pub expect : State → Bool → Phase → State
 expect s ok p = cond ok (into s p) (broken s)
 
--- a block begins, of the kind 1 (exists) or 2 (forall), and not of the kind of the block before
-abbrev pub block_start : State → ℕ → State
-block_start s d = cond (eqb s.last d) (broken s) (record { phase = AtFirstAtom; variables = s.variables; left = s.left; last = d })
+-- the last block is of that kind
+abbrev pub same_kind : Option Quantifier → Quantifier → Bool
+same_kind None d = false
+same_kind (Some Kind.Exists) Kind.Exists = true
+same_kind (Some Kind.Exists) Kind.Forall = false
+same_kind (Some Kind.Forall) Kind.Exists = false
+same_kind (Some Kind.Forall) Kind.Forall = true
+
+-- a block begins, and not of the kind of the block before
+abbrev pub block_start : State → Quantifier → State
+block_start s d = cond (same_kind s.last d) (broken s) (record { phase = AtFirstAtom; variables = s.variables; left = s.left; last = Some d })
 
 -- a clause begins, where some are left
 abbrev pub clause_start : State → Token → State
 clause_start s t = expect s (ltb 0 s.left && in_range s.variables (variable_of t)) AtLiteral
 
--- the first clause follows no forall
+-- a block where its kind is told; the first clause follows no forall
+abbrev pub row_of : State → Token → Option Quantifier → State
+row_of s t (Some d) = block_start s d
+row_of s t None = cond (same_kind s.last Kind.Forall) (broken s) (clause_start s t)
+
 abbrev pub row_start : State → Token → State
-row_start s t =
-    cond (eqb (mark_of t) 4) (block_start s 1)
-    (cond (eqb (mark_of t) 5) (block_start s 2)
-    (cond (eqb s.last 2) (broken s) (clause_start s t)))
+row_start s t = row_of s t (begun t)
 
 abbrev pub at_variables : State → ℕ → State
 at_variables s n = cond (eqb n 0) (broken s) (record { phase = AtCount; variables = n; left = s.left; last = s.last })
@@ -93,23 +134,23 @@ at_atom s t = cond (is_zero t) (into s AtBlockEnd) (expect s (in_range s.variabl
 abbrev pub at_literal : State → Token → State
 at_literal s t = cond (is_zero t) (into s AtClauseEnd) (expect s (in_range s.variables (variable_of t)) AtLiteral)
 
-abbrev pub at_clause_end : State → ℕ → State
-at_clause_end s mark =
-    cond (ltb 0 s.left && eqb mark 1) (record { phase = AtClause; variables = s.variables; left = s.left - 1; last = s.last }) (broken s)
+abbrev pub at_clause_end : State → Bool → State
+at_clause_end s ended =
+    cond (ltb 0 s.left && ended) (record { phase = AtClause; variables = s.variables; left = s.left - 1; last = s.last }) (broken s)
 
 unfoldable pub step_in : Phase → State → Token → State
-step_in AtProblem s t = expect s (eqb (mark_of t) 2) AtFormat
-step_in AtFormat s t = expect s (eqb (mark_of t) 3) AtVariables
+step_in AtProblem s t = expect s (is_problem t) AtFormat
+step_in AtFormat s t = expect s (is_cnf t) AtVariables
 step_in AtVariables s t = at_variables s (number_of t)
 step_in AtCount s t = at_count s (number_of t)
-step_in AtHeaderEnd s t = expect s (eqb (mark_of t) 1) AtRow
+step_in AtHeaderEnd s t = expect s (is_line t) AtRow
 step_in AtRow s t = row_start s t
 step_in AtFirstAtom s t = expect s (in_range s.variables (number_of t)) AtAtom
 step_in AtAtom s t = at_atom s t
-step_in AtBlockEnd s t = expect s (eqb (mark_of t) 1) AtRow
+step_in AtBlockEnd s t = expect s (is_line t) AtRow
 step_in AtClause s t = clause_start s t
 step_in AtLiteral s t = at_literal s t
-step_in AtClauseEnd s t = at_clause_end s (mark_of t)
+step_in AtClauseEnd s t = at_clause_end s (is_line t)
 step_in Broken s t = s
 
 unfoldable pub step : State → Token → State
@@ -120,7 +161,7 @@ run s [] = s
 run s (t ∷ ts) = run (step s t) ts
 
 abbrev pub start : State
-start = record { phase = AtProblem; variables = 0; left = 0; last = 0 }
+start = record { phase = AtProblem; variables = 0; left = 0; last = None }
 
 -- at the end of the last clause
 unfoldable pub finished : Phase → Bool

@@ -1,5 +1,5 @@
 -- The fields of a QDIMACS text: what stands between blanks and line ends. Assumes nothing.
-use Rattle.std.specs.Prelude.{ℕ, zero, suc, ◌+◌, ◌-◌, ◌*◌, ◌≤◌, ◌<◌, Bool, true, false, not, cond, ◌&&◌, ◌||◌, List, [], ◌∷◌, ◌≡◌, eqb, leb, ltb, length, get_or, drop}
+use Rattle.std.specs.Prelude.{ℕ, zero, suc, ◌+◌, ◌-◌, ◌*◌, ◌≤◌, ◌<◌, Bool, true, false, not, cond, ◌&&◌, ◌||◌, List, [], ◌∷◌, ◌≡◌, eqb, leb, ltb, length, get_or, drop, Option, None, Some}
 use Rattle.dimacs.specs.declared.token.Token.{Token}
 use Rattle.dimacs.specs.declared.token.Token.TheVariants.{Line, Problem, Format, Exists, Forall, Number, Negative, Other}
 
@@ -34,31 +34,36 @@ word (b ∷ l) = cond (separates b) [] (b ∷ word l)
 
 -- ---- numbers: decimal, without leading zeros, below 2 ^ 31, so that they fit 32 bits signed
 
--- told for what is no such number
-abbrev pub no_number : ℕ
-no_number = 2147483648
+abbrev pub number_limit : ℕ
+number_limit = 2147483648
 
 unfoldable pub digit : ℕ → Bool
 digit b = leb 48 b && leb b 57
 
 -- v with one digit more
-unfoldable pub with_digit : ℕ → ℕ → ℕ
-with_digit v b = cond (digit b && ltb (v * 10 + (b - 48)) no_number) (v * 10 + (b - 48)) no_number
+unfoldable pub with_digit : ℕ → ℕ → Option ℕ
+with_digit v b = cond (digit b && ltb (v * 10 + (b - 48)) number_limit) (Some (v * 10 + (b - 48))) None
 
-unfoldable pub decimal_from : ℕ → List ℕ → ℕ
-decimal_from v [] = v
-decimal_from v (b ∷ l) = cond (eqb (with_digit v b) no_number) no_number (decimal_from (with_digit v b) l)
+abbrev pub and_then : Option ℕ → (ℕ → Option ℕ) → Option ℕ
+and_then None f = None
+and_then (Some v) f = f v
 
-unfoldable pub decimal : List ℕ → ℕ
-decimal w = cond (eqb (length w) 0 || (ltb 1 (length w) && eqb (get_or w 0 0) 48)) no_number (decimal_from 0 w)
+unfoldable pub decimal_from : ℕ → List ℕ → Option ℕ
+decimal_from v [] = Some v
+decimal_from v (b ∷ l) = and_then (with_digit v b) (λ w. decimal_from w l)
+
+unfoldable pub decimal : List ℕ → Option ℕ
+decimal w = cond (eqb (length w) 0 || (ltb 1 (length w) && eqb (get_or w 0 0) 48)) None (decimal_from 0 w)
 
 -- ---- what a field says
 
-unfoldable pub number_token : ℕ → Token
-number_token n = cond (ltb n no_number) (Number n) Other
+unfoldable pub number_token : Option ℕ → Token
+number_token None = Other
+number_token (Some n) = Number n
 
-unfoldable pub negative_token : ℕ → Token
-negative_token n = cond (ltb 0 n && ltb n no_number) (Negative n) Other
+unfoldable pub negative_token : Option ℕ → Token
+negative_token None = Other
+negative_token (Some n) = cond (ltb 0 n) (Negative n) Other
 
 -- of one byte: p, e, a or a digit
 unfoldable pub letter_token : ℕ → Token

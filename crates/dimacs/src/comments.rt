@@ -7,9 +7,7 @@ pub fn behind_comments(text: &[u8]) -> usize
     ensures { (drop result text.now ≡ behind_comments false text.now) × (result ≤ length text.now) }
 {
     let mut inside = false;
-    let mut at: usize = 0;
-    while at < text.len() {
-        let b = text[at];
+    for (at, &b) in text.iter().enumerate() {
         if inside {
             inside = b != b'\n';
         } else {
@@ -18,7 +16,6 @@ pub fn behind_comments(text: &[u8]) -> usize
             }
             inside = true;
         }
-        at += 1;
     }
-    at
+    text.len()
 }

@@ -1,5 +1,5 @@
 // The shape of a text's fields, as a machine that takes one field after the other.
-ghost use Rattle.std.specs.Prelude.{◌≡◌, cond, ◌≤◌, length, drop};
+ghost use Rattle.std.specs.Prelude.{◌≡◌, ◌≤◌, length, drop};
 ghost use Rattle.dimacs.specs.Token.{tokens};
 ghost use Rattle.dimacs.specs.Shape as Machine;
 
@@ -25,16 +25,23 @@ pub enum Phase {
     Broken,
 }
 
-// The phase, the problem line's variables, how many clauses are left, and the kind of the last block: 0 for none, 1 for e, 2 for a.
+#[derive(Clone, Copy, PartialEq, Eq)]
+pub enum Quantifier {
+    Exists,
+    Forall,
+}
+
+// The phase, the problem line's variables, how many clauses are left, and the kind of the last block, if there is one.
 #[derive(Clone, Copy)]
 pub struct State {
     pub phase: Phase,
     pub variables: u32,
     pub left: u32,
-    pub last: u8,
+    pub last: Option<Quantifier>,
 }
 
-// The number of a field that has no sign, 0 for others.
+// The number of a field that has no sign, 0 for others: an Option would be refused just where 0 is, since 0 is no variable and no count.
+#[tactic(auto, unfolding(crate::specs::Shape::number_of))]
 pub fn number_of(t: Token) -> u32
     ensures { result ≡ Machine.number_of t }
 {
@@ -45,66 +52,73 @@ pub fn number_of(t: Token) -> u32
 }
 
 // The variable of a literal, from 1 on, 0 for others.
+#[tactic(auto, unfolding(crate::specs::Shape::variable_of))]
 pub fn variable_of(t: Token) -> u32
     ensures { result ≡ Machine.variable_of t }
 {
     match t {
-        Token::Number(n) => n,
-        Token::Negative(n) => n,
+        Token::Number(n) | Token::Negative(n) => n,
         _ => 0,
     }
 }
 
+#[tactic(auto, unfolding(crate::specs::Shape::is_zero))]
 fn is_zero(t: Token) -> bool
     ensures { result ≡ Machine.is_zero t }
 {
-    match t {
-        Token::Number(n) => n == 0,
-        _ => false,
-    }
+    matches!(t, Token::Number(0))
 }
 
-// A code for fields that hold no number: 1 for a line's end, 2 for p, 3 for cnf, 4 for e, 5 for a.
-pub fn mark_of(t: Token) -> u8
-    ensures { result ≡ Machine.mark_of t }
+#[tactic(auto, unfolding(crate::specs::Shape::is_line))]
+pub(crate) fn is_line(t: Token) -> bool
+    ensures { result ≡ Machine.is_line t }
+{
+    matches!(t, Token::Line)
+}
+
+#[tactic(auto, unfolding(crate::specs::Shape::is_problem))]
+fn is_problem(t: Token) -> bool
+    ensures { result ≡ Machine.is_problem t }
+{
+    matches!(t, Token::Problem)
+}
+
+#[tactic(auto, unfolding(crate::specs::Shape::is_cnf))]
+fn is_cnf(t: Token) -> bool
+    ensures { result ≡ Machine.is_cnf t }
+{
+    matches!(t, Token::Format)
+}
+
+// The kind of the block that a field begins.
+#[tactic(auto, unfolding(crate::specs::Shape::begun))]
+fn begun(t: Token) -> Option<Quantifier>
+    ensures { result ≡ Machine.begun t }
 {
     match t {
-        Token::Line => 1,
-        Token::Problem => 2,
-        Token::Format => 3,
-        Token::Exists => 4,
-        Token::Forall => 5,
-        _ => 0,
+        Token::Exists => Some(Quantifier::Exists),
+        Token::Forall => Some(Quantifier::Forall),
+        _ => None,
     }
 }
 
+#[tactic(auto, using(std::proofs::lemmas::Bool::Decides::nat_tests))]
 pub fn in_range(most: u32, n: u32) -> bool
     ensures { result ≡ Machine.in_range most n }
 {
-    if n == 0 {
-        return false;
-    }
-    n <= most
+    0 < n && n <= most
 }
 
 fn into_phase(s: State, p: Phase) -> State
     ensures { result ≡ Machine.into s p }
 {
-    State {
-        phase: p,
-        variables: s.variables,
-        left: s.left,
-        last: s.last,
-    }
+    State { phase: p, ..s }
 }
 
 fn expect(s: State, ok: bool, p: Phase) -> State
     ensures { result ≡ Machine.expect s ok p }
 {
-    if ok {
-        return into_phase(s, p);
-    }
-    into_phase(s, Phase::Broken)
+    into_phase(s, if ok { p } else { Phase::Broken })
 }
 
 fn at_variables(s: State, n: u32) -> State
@@ -116,8 +130,7 @@ fn at_variables(s: State, n: u32) -> State
     State {
         phase: Phase::AtCount,
         variables: n,
-        left: s.left,
-        last: s.last,
+        ..s
     }
 }
 
@@ -129,23 +142,31 @@ fn at_count(s: State, n: u32) -> State
     }
     State {
         phase: Phase::AtHeaderEnd,
-        variables: s.variables,
         left: n,
-        last: s.last,
+        ..s
     }
 }
 
-fn block_start(s: State, kind: u8) -> State
+// Whether the last block is of a kind.
+fn is_last(last: Option<Quantifier>, kind: Quantifier) -> bool
+    ensures { result ≡ Machine.same_kind last kind }
+{
+    match last {
+        Some(l) => l == kind,
+        None => false,
+    }
+}
+
+fn block_start(s: State, kind: Quantifier) -> State
     ensures { result ≡ Machine.block_start s kind }
 {
-    if s.last == kind {
+    if is_last(s.last, kind) {
         return into_phase(s, Phase::Broken);
     }
     State {
         phase: Phase::AtFirstAtom,
-        variables: s.variables,
-        left: s.left,
-        last: kind,
+        last: Some(kind),
+        ..s
     }
 }
 
@@ -161,14 +182,10 @@ fn clause_start(s: State, t: Token) -> State
 fn row_start(s: State, t: Token) -> State
     ensures { result ≡ Machine.row_start s t }
 {
-    let mark = mark_of(t);
-    if mark == 4 {
-        return block_start(s, 1);
+    if let Some(kind) = begun(t) {
+        return block_start(s, kind);
     }
-    if mark == 5 {
-        return block_start(s, 2);
-    }
-    if s.last == 2 {
+    if is_last(s.last, Quantifier::Forall) {
         return into_phase(s, Phase::Broken);
     }
     clause_start(s, t)
@@ -192,41 +209,38 @@ fn at_literal(s: State, t: Token) -> State
     expect(s, in_range(s.variables, variable_of(t)), Phase::AtLiteral)
 }
 
-fn at_clause_end(s: State, mark: u8) -> State
-    ensures { result ≡ Machine.at_clause_end s mark }
+fn at_clause_end(s: State, ended: bool) -> State
+    ensures { result ≡ Machine.at_clause_end s ended }
 {
-    if s.left == 0 {
-        return into_phase(s, Phase::Broken);
-    }
-    if mark != 1 {
+    if s.left == 0 || !ended {
         return into_phase(s, Phase::Broken);
     }
     State {
         phase: Phase::AtClause,
-        variables: s.variables,
         left: s.left - 1,
-        last: s.last,
+        ..s
     }
 }
 
 // A field taken.
+#[tactic(auto, unfolding(crate::specs::Shape::step, crate::specs::Shape::step_in))]
 fn step(s: State, t: Token) -> State
     ensures { result ≡ Machine.step s t }
 {
     let phase = s.phase;
     match phase {
-        Phase::AtProblem => expect(s, mark_of(t) == 2, Phase::AtFormat),
-        Phase::AtFormat => expect(s, mark_of(t) == 3, Phase::AtVariables),
+        Phase::AtProblem => expect(s, is_problem(t), Phase::AtFormat),
+        Phase::AtFormat => expect(s, is_cnf(t), Phase::AtVariables),
         Phase::AtVariables => at_variables(s, number_of(t)),
         Phase::AtCount => at_count(s, number_of(t)),
-        Phase::AtHeaderEnd => expect(s, mark_of(t) == 1, Phase::AtRow),
+        Phase::AtHeaderEnd => expect(s, is_line(t), Phase::AtRow),
         Phase::AtRow => row_start(s, t),
         Phase::AtFirstAtom => expect(s, in_range(s.variables, number_of(t)), Phase::AtAtom),
         Phase::AtAtom => at_atom(s, t),
-        Phase::AtBlockEnd => expect(s, mark_of(t) == 1, Phase::AtRow),
+        Phase::AtBlockEnd => expect(s, is_line(t), Phase::AtRow),
         Phase::AtClause => clause_start(s, t),
         Phase::AtLiteral => at_literal(s, t),
-        Phase::AtClauseEnd => at_clause_end(s, mark_of(t)),
+        Phase::AtClauseEnd => at_clause_end(s, is_line(t)),
         Phase::Broken => s,
     }
 }
@@ -240,7 +254,7 @@ pub fn run(text: &[u8], from: usize) -> State
         phase: Phase::AtProblem,
         variables: 0,
         left: 0,
-        last: 0,
+        last: None,
     };
     let mut at = from;
     while at < text.len() {
@@ -253,6 +267,7 @@ pub fn run(text: &[u8], from: usize) -> State
 }
 
 // Whether the last clause has ended.
+#[tactic(auto, unfolding(crate::specs::Shape::whole, crate::specs::Shape::finished))]
 pub fn whole(s: State) -> bool
     ensures { result ≡ Machine.whole s }
 {

@@ -1,8 +1,8 @@
 // The fields of a text. Blanks and what a number may be are told here and nowhere else.
-ghost use Rattle.std.specs.Prelude.{◌≡◌, ◌+◌, ◌≤◌, ◌<◌, length, drop};
+ghost use Rattle.std.specs.Prelude.{◌≡◌, ◌≤◌, ◌<◌, length, drop, IfSome};
 ghost use Rattle.std.proofs.Math.Seq.{slice};
 ghost use Rattle.dimacs.specs.Token as Field;
-ghost use Rattle.dimacs.specs.Token.{after_blanks, no_number, Taken};
+ghost use Rattle.dimacs.specs.Token.{after_blanks, number_limit, Taken};
 
 #[derive(Clone, Copy)]
 pub enum Token {
@@ -26,25 +26,21 @@ pub struct Step {
     pub end: usize,
 }
 
-// Told for what is no number below 2^31.
-const NO_NUMBER: u32 = 2147483648;
+// Numbers are below 2^31, so that they fit 32 bits signed.
+const NUMBER_LIMIT: u64 = 2147483648;
 
+#[tactic(auto, using(std::proofs::lemmas::Bool::Decides::nat_tests), unfolding(crate::specs::Token::blank))]
 fn blank(b: u8) -> bool
     ensures { result ≡ Field.blank b }
 {
-    if b == b' ' {
-        return true;
-    }
-    b == b'\t'
+    b == b' ' || b == b'\t'
 }
 
+#[tactic(auto, using(std::proofs::lemmas::Bool::Decides::nat_tests), unfolding(crate::specs::Token::separates))]
 fn separates(b: u8) -> bool
     ensures { result ≡ Field.separates b }
 {
-    if blank(b) {
-        return true;
-    }
-    b == b'\n'
+    blank(b) || b == b'\n'
 }
 
 // Where the blanks at a place end.
@@ -52,14 +48,12 @@ fn skip_blanks(text: &[u8], from: usize) -> usize
     requires { from ≤ length text.now }
     ensures { (drop result text.now ≡ after_blanks (drop from text.now)) × (from ≤ result) × (result ≤ length text.now) }
 {
-    let mut at = from;
-    while at < text.len() {
+    for at in from..text.len() {
         if !blank(text[at]) {
             return at;
         }
-        at += 1;
     }
-    at
+    text.len()
 }
 
 // Where the word at a place ends.
@@ -67,95 +61,82 @@ fn word_end(text: &[u8], from: usize) -> usize
     requires { from ≤ length text.now }
     ensures { (slice from result text.now ≡ Field.word (drop from text.now)) × (from ≤ result) × (result ≤ length text.now) }
 {
-    let mut at = from;
-    while at < text.len() {
+    for at in from..text.len() {
         if separates(text[at]) {
             return at;
         }
-        at += 1;
     }
-    at
+    text.len()
 }
 
 // The number with one digit more.
-fn with_digit(value: u32, b: u8) -> u32
-    requires { value < no_number }
-    ensures { result ≡ Field.with_digit value b }
+#[tactic(auto, using(std::proofs::lemmas::Bool::Decides::nat_tests), unfolding(crate::specs::Token::with_digit, crate::specs::Token::digit))]
+fn with_digit(value: u32, b: u8) -> Option<u32>
+    requires { value < number_limit }
+    ensures value { result ≡ Field.with_digit value b }
+    ensures below { IfSome result (λ n. n < number_limit) }
 {
-    if b < b'0' {
-        return NO_NUMBER;
+    if b < b'0' || b > b'9' {
+        return None;
     }
-    if b > b'9' {
-        return NO_NUMBER;
+    let wider = u64::from(value) * 10 + u64::from(b - b'0');
+    if wider < NUMBER_LIMIT {
+        return Some(wider as u32);
     }
-    let wider = value as u64 * 10 + (b - b'0') as u64;
-    if wider < NO_NUMBER as u64 {
-        return wider as u32;
-    }
-    NO_NUMBER
+    None
 }
 
-// The number that a word is.
-fn decimal(text: &[u8], from: usize, to: usize) -> u32
-    requires { (from ≤ to) × (to ≤ length text.now) }
-    ensures { result ≡ Field.decimal (slice from to text.now) }
+// The number that digits make.
+fn digits(word: &[u8]) -> Option<u32>
+    ensures { result ≡ Field.decimal_from 0 word.now }
 {
-    if from == to {
-        return NO_NUMBER;
-    }
-    if from + 1 < to {
-        if text[from] == b'0' {
-            return NO_NUMBER;
-        }
-    }
     let mut value: u32 = 0;
-    let mut at = from;
-    while at < to {
-        value = with_digit(value, text[at]);
-        if value == NO_NUMBER {
-            return NO_NUMBER;
-        }
-        at += 1;
+    for &b in word {
+        value = with_digit(value, b)?;
     }
-    value
+    Some(value)
 }
 
-fn number_token(n: u32) -> Token
-    ensures { result ≡ Field.number_token n }
+// The number that a word is: it has digits, and none of them is a leading zero.
+#[tactic(auto, using(std::proofs::lemmas::Bool::Decides::nat_tests), unfolding(crate::specs::Token::decimal))]
+fn decimal(word: &[u8]) -> Option<u32>
+    ensures { result ≡ Field.decimal word.now }
 {
-    if n < NO_NUMBER {
-        return Token::Number(n);
+    match word {
+        [] | [b'0', _, ..] => None,
+        _ => digits(word),
     }
-    Token::Other
 }
 
-fn negative_token(n: u32) -> Token
-    ensures { result ≡ Field.negative_token n }
+#[tactic(auto, unfolding(crate::specs::Token::number_token))]
+fn number_token(number: Option<u32>) -> Token
+    ensures { result ≡ Field.number_token number }
 {
-    if n == 0 {
-        return Token::Other;
+    match number {
+        Some(n) => Token::Number(n),
+        None => Token::Other,
     }
-    if n < NO_NUMBER {
-        return Token::Negative(n);
-    }
-    Token::Other
 }
 
-// Whether the three bytes at a place are cnf.
-fn is_format(text: &[u8], from: usize) -> bool
-    requires { from + 3 ≤ length text.now }
-    ensures { result ≡ Field.is_format (slice from (from + 3) text.now) }
+#[tactic(auto, using(std::proofs::lemmas::Bool::Decides::nat_tests), unfolding(crate::specs::Token::negative_token))]
+fn negative_token(number: Option<u32>) -> Token
+    ensures { result ≡ Field.negative_token number }
 {
-    if text[from] != b'c' {
-        return false;
+    match number {
+        None | Some(0) => Token::Other,
+        Some(n) => Token::Negative(n),
     }
-    if text[from + 1] != b'n' {
-        return false;
-    }
-    text[from + 2] == b'f'
+}
+
+#[tactic(auto, using(std::proofs::lemmas::Bool::Decides::nat_tests), unfolding(crate::specs::Token::is_format))]
+fn is_format(word: &[u8]) -> bool
+    ensures { result ≡ Field.is_format word.now }
+{
+    matches!(word, [b'c', b'n', b'f'])
 }
 
 // A word of one byte: p, e, a or a digit.
+#[tactic(auto, using(std::proofs::lemmas::Bool::Decides::nat_tests), unfolding(crate::specs::Token::letter_token))]
 fn letter_token(b: u8) -> Token
     ensures { result ≡ Field.letter_token b }
 {
@@ -168,22 +149,21 @@ fn letter_token(b: u8) -> Token
 }
 
 // What a word says.
-fn token_of(text: &[u8], from: usize, to: usize) -> Token
-    requires { (from < to) × (to ≤ length text.now) }
-    ensures { result ≡ Field.token_of (slice from to text.now) }
+#[tactic(auto, using(std::proofs::lemmas::Bool::Decides::nat_tests), unfolding(crate::specs::Token::token_of))]
+fn token_of(word: &[u8]) -> Token
+    requires { 0 < length word.now }
+    ensures { result ≡ Field.token_of word.now }
 {
-    if to - from == 1 {
-        return letter_token(text[from]);
+    if word.len() == 1 {
+        return letter_token(word[0]);
     }
-    if to - from == 3 {
-        if is_format(text, from) {
-            return Token::Format;
-        }
+    if is_format(word) {
+        return Token::Format;
     }
-    if text[from] == b'-' {
-        return negative_token(decimal(text, from + 1, to));
+    if word[0] == b'-' {
+        return negative_token(decimal(&word[1..]));
     }
-    number_token(decimal(text, from, to))
+    number_token(decimal(word))
 }
 
 // The field at a place.
@@ -206,7 +186,7 @@ pub fn next(text: &[u8], at: usize) -> Step
     }
     let to = word_end(text, from);
     Step {
-        token: token_of(text, from, to),
+        token: token_of(&text[from..to]),
         end: to,
     }
 }

@@ -2,6 +2,8 @@
 // it prints the record of three numbers that is handed back, or that there is none. Then the same on a wide sheet, whose records have five.
 #![tactic(auto)]
 
+use form::Form;
+use records::Counts;
 use std::io;
 
 // Ten frames; variables 0 and 1 are open.
@@ -28,113 +30,132 @@ const TABLE_NUMBERS: usize = 30;
 
 const WIDE_NUMBERS: usize = 50;
 
-// A part that the finder handed back: frame, mask, values; or the empty part.
+// A refused run keeps no record.
+const NONE: Counts = Counts { under: 0, over: 0 };
+
+// Two tables that a run has left, and how many records of each count.
+#[derive(Clone, Copy)]
+struct Tables<'a> {
+    form: Form,
+    under: &'a [u32],
+    over: &'a [u32],
+    kept: Counts,
+}
+
+// A part that the finder handed back: frame, mask, values; or the empty part. In a wide record each word's low half stands before its high one.
 fn say_part(rt: &impl Print, part: &[u32]) -> io::Result<()> {
-    if part.len() == 3 {
-        println!(rt;
-            " frame {} mask {:08x} values {:08x}",
-            part[0], part[1], part[2]
-        )
-    } else {
-        println!(rt; " no record")
+    match part {
+        [frame, mask, values] => println!(rt; " frame {frame} mask {mask:08x} values {values:08x}"),
+        [frame, mask_low, mask_high, low, high] => println!(rt;
+            " frame {frame} mask {mask_high:08x}{mask_low:08x} values {high:08x}{low:08x}"
+        ),
+        _ => println!(rt; " no record"),
     }
 }
 
-// The same for a wide part: each word's low half stands before its high one.
-fn say_wide_part(rt: &impl Print, part: &[u32]) -> io::Result<()> {
-    if part.len() == 5 {
-        println!(rt;
-            " frame {} mask {:08x}{:08x} values {:08x}{:08x}",
-            part[0], part[2], part[1], part[4], part[3]
+impl Tables<'_> {
+    // The first record of the frame that agrees with the setting.
+    fn look_up(self, rt: &impl Print, frame: u32, setting: u64) -> io::Result<()> {
+        match self.form {
+            Form::Narrow => print!(rt; "frame {frame} setting {setting:08x}:")?,
+            Form::Wide => print!(rt; "frame {frame} setting {setting:016x}:")?,
+        }
+        say_part(
+            rt,
+            records::find(
+                self.form,
+                self.under,
+                self.kept.under,
+                self.over,
+                self.kept.over,
+                frame,
+                setting,
+            ),
         )
-    } else {
-        println!(rt; " no record")
+    }
+
+    fn look_up_each(self, rt: &impl Print, asked: &[(u32, u64)]) -> io::Result<()> {
+        for &(frame, setting) in asked {
+            self.look_up(rt, frame, setting)?;
+        }
+        Ok(())
     }
 }
 
-// The first record of the frame that agrees with the setting.
-fn look_up<'a>(
-    rt: &impl Print,
-    under: &'a [u32; TABLE_NUMBERS],
-    under_count: usize,
-    over: &'a [u32; TABLE_NUMBERS],
-    over_count: usize,
-    frame: u32,
-    setting: u32,
-) -> io::Result<()> {
-    print!(rt; "frame {frame} setting {setting:08x}:")?;
-    say_part(
-        rt,
-        records::find(under, under_count, over, over_count, frame, setting),
-    )
-}
-
-fn look_up_wide<'a>(
-    rt: &impl Print,
-    under: &'a [u32; WIDE_NUMBERS],
-    under_count: usize,
-    over: &'a [u32; WIDE_NUMBERS],
-    over_count: usize,
-    frame: u32,
-    setting: u64,
-) -> io::Result<()> {
-    print!(rt; "frame {frame} setting {setting:016x}:")?;
-    say_wide_part(
-        rt,
-        records::find_wide(under, under_count, over, over_count, frame, setting),
-    )
-}
-
-fn say_counts(rt: &impl Print, under: usize, over: usize) -> io::Result<()> {
-    println!(rt; "records: under {under}, over {over}")
+fn say_counts(rt: &impl Print, kept: Counts) -> io::Result<()> {
+    println!(rt; "records: under {}, over {}", kept.under, kept.over)
 }
 
 fn narrow(rt: &impl Print) -> io::Result<()> {
     let mut answers = [0u8; 18];
     let mut under = [0u32; TABLE_NUMBERS];
     let mut over = [0u32; TABLE_NUMBERS];
-    let ran = run::run(&SHEET, &SCRIPT, &mut answers, &mut under, &mut over);
-    let m = ran.under;
-    let n = ran.over;
-    say_counts(rt, m, n)?;
+    let kept = run::run(
+        &SHEET,
+        Form::Narrow,
+        &SCRIPT,
+        &mut answers,
+        &mut under,
+        &mut over,
+    )
+    .unwrap_or(NONE);
+    let tables = Tables {
+        form: Form::Narrow,
+        under: &under,
+        over: &over,
+        kept,
+    };
+    say_counts(rt, kept)?;
     println!(rt; "both tables")?;
-    look_up(rt, &under, m, &over, n, 9, 2)?;
-    look_up(rt, &under, m, &over, n, 9, 0)?;
-    look_up(rt, &under, m, &over, n, 7, 0)?;
-    look_up(rt, &under, m, &over, n, 7, 1)?;
-    look_up(rt, &under, m, &over, n, 8, 2)?;
+    tables.look_up_each(rt, &[(9, 2), (9, 0), (7, 0), (7, 1), (8, 2)])?;
     println!(rt; "the under table alone")?;
-    look_up(rt, &under, m, &over, 0, 9, 2)?;
-    look_up(rt, &under, m, &over, 0, 9, 0)?;
+    let alone = Tables {
+        kept: Counts { over: 0, ..kept },
+        ..tables
+    };
+    alone.look_up_each(rt, &[(9, 2), (9, 0)])?;
     println!(rt; "the over table alone")?;
-    look_up(rt, &under, 0, &over, n, 9, 2)?;
-    look_up(rt, &under, 0, &over, n, 9, 0)?;
+    let alone = Tables {
+        kept: Counts { under: 0, ..kept },
+        ..tables
+    };
+    alone.look_up_each(rt, &[(9, 2), (9, 0)])?;
     println!(rt; "a count over its table's room")?;
-    look_up(rt, &under, 11, &over, n, 9, 0)
+    let past_room = Tables {
+        kept: Counts { under: 11, ..kept },
+        ..tables
+    };
+    past_room.look_up(rt, 9, 0)
 }
 
 fn wide(rt: &impl Print) -> io::Result<()> {
     let mut answers = [0u8; 30];
     let mut under = [0u32; WIDE_NUMBERS];
     let mut over = [0u32; WIDE_NUMBERS];
-    let ran = run::run_wide(
+    let kept = run::run(
         &WIDE_SHEET,
+        Form::Wide,
         &WIDE_SCRIPT,
         &mut answers,
         &mut under,
         &mut over,
-    );
-    let m = ran.under;
-    let n = ran.over;
+    )
+    .unwrap_or(NONE);
+    let tables = Tables {
+        form: Form::Wide,
+        under: &under,
+        over: &over,
+        kept,
+    };
     println!(rt; "a wide sheet")?;
-    say_counts(rt, m, n)?;
-    look_up_wide(rt, &under, m, &over, n, 9, 0x200000000)?;
-    look_up_wide(rt, &under, m, &over, n, 9, 0)?;
-    look_up_wide(rt, &under, m, &over, n, 9, 2)?;
-    look_up_wide(rt, &under, m, &over, n, 7, 0)?;
-    look_up_wide(rt, &under, m, &over, n, 7, 1)?;
+    say_counts(rt, kept)?;
+    tables.look_up_each(rt, &[(9, 0x200000000), (9, 0), (9, 2), (7, 0), (7, 1)])?;
     println!(rt; "a count over its table's room")?;
-    look_up_wide(rt, &under, 11, &over, n, 9, 0)
+    let past_room = Tables {
+        kept: Counts { under: 11, ..kept },
+        ..tables
+    };
+    past_room.look_up(rt, 9, 0)
 }
 
 fn main(rt: HostRuntime) -> io::Result<()> {

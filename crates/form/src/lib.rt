@@ -5,20 +5,17 @@
 ghost use Rattle.std.specs.Prelude.{◌≡◌};
 ghost use Rattle.form.specs.Form as Sizes;
 
-#[derive(Clone, Copy)]
+#[derive(Clone, Copy, PartialEq, Eq)]
 pub enum Form {
     Narrow,
     Wide,
 }
 
-// The form that a bool tells: `wide` goes where a form would not compute, into what a proof walks step by step.
+// The form that a bool tells, for a caller that has one.
 pub fn of(wide: bool) -> Form
     ensures { result ≡ Sizes.form_of wide }
 {
-    if wide {
-        return Form::Wide;
-    }
-    Form::Narrow
+    if wide { Form::Wide } else { Form::Narrow }
 }
 
 pub fn frame_bytes(form: Form) -> usize

@@ -11,7 +11,7 @@ use Rattle.std.proofs.Math.Arith.{lt-one}
 use Rattle.words.specs.Logic.{tests}
 use Rattle.words.proofs.Logic.{by_bool, clash, and_both}
 use Rattle.words.specs.Word.{bit}
-use Rattle.words.proofs.Word.{bit-pow, bit_high}
+use Rattle.words.proofs.Bits.{bit-pow, bit_high}
 use Rattle.words.specs.Mask.{Sub, Apart, without, inside, Top}
 use Rattle.words.proofs.Mask.{bits_sub, sub_trans, sub-without, inside-sub, none-sub, sub-lt, apart-bits, apart-sym, add-one-sub, without_sub, top_bit, top_rest}
 use Rattle.formula.specs.Assignment.{Assignment, assign, join, sweep, within, On}

@@ -4,7 +4,7 @@ use Rattle.std.proofs.Common.{sym, ◌∙◌, eqb-true, lt-ltb}
 use Rattle.std.proofs.Math.Bool.{and-false}
 use Rattle.std.specs.Int.Bits.{bit_or}
 use Rattle.words.proofs.Logic.{by_bool, clash, and_both, or_cases}
-use Rattle.words.proofs.Word.{bit-or, bit-none, bit-pow, ext}
+use Rattle.words.proofs.Bits.{bit-or, bit-none, bit-pow, ext}
 use Rattle.words.specs.Mask.{without, range_mask}
 use Rattle.words.proofs.Mask.{bit-without, bit-range_mask}
 use Rattle.formula.specs.Assignment.{within}

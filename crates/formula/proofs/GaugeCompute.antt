@@ -8,7 +8,7 @@ use Rattle.std.specs.Int.Bits.{bit_or}
 use Rattle.words.specs.Logic.{tests}
 use Rattle.words.proofs.Logic.{by_bool}
 use Rattle.words.specs.Word.{bit}
-use Rattle.words.proofs.Word.{bit_high}
+use Rattle.words.proofs.Bits.{bit_high}
 use Rattle.words.proofs.Mask.{sub-lt}
 use Rattle.formula.specs.Formula.{Formula}
 use Rattle.formula.specs.Over.{quants, over}

@@ -8,7 +8,7 @@ use Rattle.std.specs.Int.Bits.{bit_or, or_zero_r, and_zero_r}
 use Rattle.words.specs.Logic.{not-true, tests}
 use Rattle.words.proofs.Logic.{by_bool, clash, and_both, or_cases}
 use Rattle.words.specs.Word.{bit}
-use Rattle.words.proofs.Word.{bit-and, bit-or, ext}
+use Rattle.words.proofs.Bits.{bit-and, bit-or, ext}
 use Rattle.words.specs.Mask.{Sub, Apart, without, inside, mask_of}
 use Rattle.words.proofs.Mask.{bit-without, bit-mask_of, sub-bits, bits_sub, bits_apart, apart-bits, sub-inside, inside-sub, sub_trans, sub-le, none-sub, or-sum, or-sub, apart-sym, apart-sub, sub-or-left, sub-or-right, without_sub}
 use Rattle.formula.specs.Assignment.{Assignment, On}

@@ -6,7 +6,7 @@ use Rattle.std.specs.Int.Bits.{bit_or}
 use Rattle.words.specs.Logic.{tests}
 use Rattle.words.proofs.Logic.{by_bool, clash, or-false, and_both}
 use Rattle.words.specs.Word.{bit}
-use Rattle.words.proofs.Word.{bit-or, bit_high}
+use Rattle.words.proofs.Bits.{bit-or, bit_high}
 use Rattle.words.specs.Mask.{range_mask}
 use Rattle.formula.specs.Assignment.{Assignment, assign, within, On}
 use Rattle.formula.proofs.Assignment.{assign-same, assign_other, within-suc, within-zero, sweep_finds, sweep_meets, by_value, differ}

@@ -6,7 +6,7 @@ use Rattle.std.proofs.Math.Bool.{and-true}
 use Rattle.std.specs.Int.Bits.{bit_and, bit_or}
 use Rattle.words.proofs.Logic.{by_bool, clash}
 use Rattle.words.specs.Word.{bit}
-use Rattle.words.proofs.Word.{bit-and, bit-or, bit-none, bit-pow}
+use Rattle.words.proofs.Bits.{bit-and, bit-or, bit-none, bit-pow}
 use Rattle.words.specs.Mask.{Sub, Apart, without, range_mask, put, agree}
 use Rattle.words.proofs.Mask.{sub-bits, bits_apart, bit-without, bit-range_mask, bit-put, agree-bits}
 use Rattle.formula.specs.Assignment.{Assignment, assign, within}

@@ -8,7 +8,7 @@ use Rattle.std.specs.Bool.{beq}
 use Rattle.words.specs.Logic.{tests}
 use Rattle.words.proofs.Logic.{by_bool, clash, and_both}
 use Rattle.words.specs.Word.{bit}
-use Rattle.words.proofs.Word.{bit-pow}
+use Rattle.words.proofs.Bits.{bit-pow}
 use Rattle.words.specs.Mask.{Sub, without}
 use Rattle.words.proofs.Mask.{bits_sub, sub_refl, sub_trans, without_sub, without_mono, without-none, bit-without}
 use Rattle.formula.specs.Assignment.{Assignment, within, On, Off}

@@ -6,7 +6,7 @@ use Rattle.std.proofs.Math.Path.{refl, ap, fun_ext}
 use Rattle.std.proofs.Math.Bool.{true, false}
 use Rattle.std.specs.Int.Bits.{bit_or}
 use Rattle.words.proofs.Logic.{by_bool, clash}
-use Rattle.words.proofs.Word.{bit_high, ext}
+use Rattle.words.proofs.Bits.{bit_high, ext}
 use Rattle.words.specs.Mask.{without}
 use Rattle.words.proofs.Mask.{inside-sub, sub-lt}
 use Rattle.formula.specs.Formula.{Formula}

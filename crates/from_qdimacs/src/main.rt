@@ -5,6 +5,7 @@ ghost use Rattle.std.specs.Prelude.{ℕ, List, ◌≡◌, ◌<◌, ◌≤◌, le
 ghost use Rattle.std.specs.Io.KnownBytes.{Appends};
 ghost use Rattle.from_qdimacs.specs.Converted.{Converted, Prints};
 
+use form::Form;
 use std::io;
 use std::io::{Read, Write};
 
@@ -20,13 +21,10 @@ fn convert(text: &[u8], out: &mut [u8]) -> usize
     ensures { Prints text.now out.new result }
 {
     let mut sheet = [0u8; prenex::SHEET_BYTES];
-    let parsed = qdimacs::read(text, &mut sheet);
-    if parsed.refusal != 0 {
-        let answer = [parsed.refusal, 0, 0, 0, 0, 0];
-        return text::answer_lines(&answer, out);
+    match qdimacs::read(text, &mut sheet) {
+        Ok(size) => text::frame_lines(&sheet[..size], Form::Narrow, out),
+        Err(fault) => text::answer_lines(&[fault.number(), 0, 0, 0, 0, 0], Form::Narrow, out),
     }
-    let end = parsed.length;
-    text::frame_lines(&sheet[..end], out)
 }
 
 // The program over any reader and writers. Where the reader's bytes are known, what they are converted to is appended to what the output holds, or, where

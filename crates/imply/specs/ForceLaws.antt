@@ -6,7 +6,7 @@ use Rattle.std.specs.Int.Bits.{bit_and, bit_or}
 use Rattle.std.proofs.lemmas.Nat.{and_comm}
 use Rattle.words.proofs.Logic.{by_bool, or_left, or_right, or_cases, and_both, not_flip}
 use Rattle.words.specs.Word.{bit}
-use Rattle.words.proofs.Word.{bit-and, bit-or, ext}
+use Rattle.words.proofs.Bits.{bit-and, bit-or, ext}
 use Rattle.words.specs.Mask.{Sub, Apart, without}
 use Rattle.words.proofs.Mask.{bit-without, without-sum, without_sub, without-apart, without_mono, sub-bits, bits_sub, bits_apart, apart-bits, apart-sub, apart-sym, or-sub, or_apart, or-sum, sub_trans, sub-or-left}
 use Rattle.formula.specs.Assignment.{On}

@@ -5,7 +5,7 @@ use Rattle.std.proofs.Math.Bool.{and-true}
 use Rattle.std.specs.Int.Bits.{bit_or}
 use Rattle.words.proofs.Logic.{by_bool, clash, or_cases}
 use Rattle.words.specs.Word.{bit}
-use Rattle.words.proofs.Word.{bit-or, bit-none, bit-pow}
+use Rattle.words.proofs.Bits.{bit-or, bit-none, bit-pow}
 use Rattle.words.specs.Mask.{Sub, Top, without}
 use Rattle.words.proofs.Mask.{bit-without, without_sub, bits_sub, sub_trans, sub_refl, sub-or-left, sub-or-right, top_bit}
 use Rattle.imply.specs.Gather.{Gathered}

@@ -5,7 +5,7 @@ use Rattle.std.proofs.Math.Bool.{and-true, and-false}
 use Rattle.std.specs.Int.Bits.{bit_or}
 use Rattle.words.proofs.Logic.{by_bool, clash, or_right}
 use Rattle.words.specs.Word.{bit}
-use Rattle.words.proofs.Word.{bit-or, bit-pow, ext}
+use Rattle.words.proofs.Bits.{bit-or, bit-pow, ext}
 use Rattle.words.specs.Mask.{Sub, Apart, Top, without}
 use Rattle.words.proofs.Mask.{bit-without, bits_sub, bits_apart, apart-bits, apart-sub, apart-sym, sub_trans, without_sub, without-apart, or-sum, sub-le}
 use Rattle.words.specs.Mask.{put, placed}

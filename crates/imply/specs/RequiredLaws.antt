@@ -1,13 +1,14 @@
 -- Backward implication goes from a node to those that it names; the wants stay right; what is wanted of an input forces a variable. Assumes nothing.
-use Rattle.std.specs.Prelude.{ℕ, ◌+◌, ◌-◌, ◌*◌, ◌≤◌, ◌<◌, ◌^◌, ◌≡◌, refl, Bool, true, false, List, length, get_or, set, eqb}
-use Rattle.std.proofs.Common.{arith, ◌∙◌, subst, length-set, get_or-set_same, get_or-set_other, eqb-true, eq-eqb}
+use Rattle.std.specs.Prelude.{ℕ, ◌+◌, ◌-◌, ◌*◌, ◌≤◌, ◌<◌, ◌^◌, ◌≡◌, refl, Bool, true, false, List, ◌++◌, length, get_or, take, drop, replicate, set, eqb}
+use Rattle.std.proofs.lemmas.List.{get_or_append_left, get_or-replicate, length-replicate}
+use Rattle.std.proofs.Common.{arith, ◌∙◌, subst, length-append, length-take, length-drop, length-set, get_or-set_same, get_or-set_other, eqb-true, eq-eqb}
 use Rattle.std.proofs.Math.Path.{sym, ap}
 use Rattle.std.proofs.Math.Bool.{not}
 use Rattle.std.specs.Int.Bits.{bit_or}
 use Rattle.words.specs.Logic.{tests}
 use Rattle.words.proofs.Logic.{by_bool, clash, or_left, or_right, or_cases, not-not}
 use Rattle.words.specs.Word.{bit}
-use Rattle.words.proofs.Word.{bit-or, bit-none, bit-pow}
+use Rattle.words.proofs.Bits.{bit-or, bit-none, bit-pow}
 use Rattle.words.specs.Mask.{Apart}
 use Rattle.words.proofs.Mask.{bits_sub, bits_apart, or-sub, none-sub, one-sub, sub-bits}
 use Rattle.formula.specs.Assignment.{Assignment, On, join}
@@ -166,39 +167,30 @@ module _ {net : List ℕ} {a t m w : ℕ} where
             (λ e. rw (other-value S i (λ q. omega tests), other-reason S i (λ q. omega tests)) (W.each i l));
       }
 
-  pub wanted_at : {k v r : ℕ} {wants : List ℕ} → k ≤ a → Wanted net a t m w wants → v ≡ value_of wants k → r ≡ reason_of wants k → 0 < v → Required net a t m w k v r
-  wanted_at {k} l W p q = rw (p, q) (W.each k l)
+  pub wanted_at : {k v r : ℕ} {wants : List ℕ} → k ≤ a → Wanted net a t m w wants → v ≡ value_of wants k → (0 < v → r ≡ reason_of wants k) → 0 < v → Required net a t m w k v r
+  wanted_at {k} l W p q s = rw (p, q s) (W.each k l (rw (← p) s))
 
   pub wanted_wiped : {wants wants' : List ℕ} → Wiped a wants wants' → length net ≤ 67 + length wants → Wanted net a t m w wants'
   wanted_wiped p l = record { long = omega (arith, p.same); each = λ k h z. absurd (omega (arith, p.none k h)) }
 
 -- ---- node k names node i: both scratches have a place for it
 
-pub named-fits : {net cells : List ℕ} {n m w k i v : ℕ} → (Ground net × HasNode net k × Judged net m w cells × (length net ≤ 67 + n)) → i < k → v < 3
-    → HasCell cells i × (2 * i + 1 < n) × (i < 65535) × (v < 3)
-named-fits h l s = (omega (arith, h.1, h.2.long), omega (arith, h.1, h.3), omega (arith, h.1, h.0.few), s)
+pub named-fits : {net cells : List ℕ} {n m w k i : ℕ} → (Ground net × HasNode net k × Judged net m w cells × (length net ≤ 67 + n)) → i < k
+    → HasCell cells i × (2 * i + 1 < n) × (i < 65535)
+named-fits h l = (omega (arith, h.1, h.2.long), omega (arith, h.1, h.3), omega (arith, h.1, h.0.few))
 
--- ---- wiping: the first i words are 0
+-- ---- wiping: the words in front are 0
 
-pub record Wiping (i : ℕ) (wants₀ wants : List ℕ) : Type 0 where
-  pub same : length wants ≡ length wants₀
-  pub zeros : (j : ℕ) → j < i → get_or wants j 0 ≡ 0
-
-pub wiping_none : (wants : List ℕ) → Wiping 0 wants wants
-wiping_none wants = record { same = refl; zeros = λ j h. absurd (omega arith) }
-
-pub wiping_more : {i : ℕ} {wants₀ wants : List ℕ} → i < length wants → Wiping i wants₀ wants → Wiping (i + 1) wants₀ (set wants i 0)
-wiping_more {i} {wants = wants} l p =
-    record {
-      same = length-set wants i 0 ∙ p.same;
-      zeros = λ j h. by_bool (eqb j i)
-          (λ e. rw (eqb-true j i e) (get_or-set_same wants i 0 0 l))
-          (λ e. get_or-set_other wants i j 0 0 (λ q. omega tests) ∙ p.zeros j (omega tests));
-    }
-
-pub wiping-end : {i a : ℕ} {wants₀ wants : List ℕ} → 2 * a + 2 ≤ i → Wiping i wants₀ wants → Wiped a wants₀ wants
+pub wiped_front : {a : ℕ} {front wants : List ℕ} → HasCell wants a → front ≡ replicate (length (take (2 * a + 2) wants)) 0 → Wiped a wants (front ++ drop (2 * a + 2) wants)
 unfolding value_of
-wiping-end l p = record { same = p.same; none = λ k h. rw (p.zeros (2 * k) (omega arith)) }
+wiped_front {a} {front} {wants} l e =
+    let n : length (take (2 * a + 2) wants) ≡ 2 * a + 2 = simp length-take (omega arith) in
+    let z : front ≡ replicate (2 * a + 2) 0 = rw n at e in
+    let long : length front ≡ 2 * a + 2 = rw z (length-replicate {A = ℕ} (2 * a + 2) 0) in
+    record {
+      same = simp (length-append, length-drop) (omega arith);
+      none = λ k h. rw (get_or_append_left front (drop (2 * a + 2) wants) 0 (2 * k) (omega arith), z, get_or-replicate {A = ℕ} (2 * a + 2) (2 * k) 0 0 (omega arith));
+    }
 
 -- ---- variables that are forced
 

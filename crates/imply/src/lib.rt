@@ -2,9 +2,9 @@
 // account: it is wiped first.
 #![tactic(auto)]
 
-ghost use Rattle.std.specs.Prelude.{◌≡◌, List, ℕ, ◌+◌, ◌<◌, ◌≤◌, ◌^◌, length};
-ghost use Rattle.std.specs.Int.Bits.{bit_or};
-ghost use Rattle.net.specs.Layout.{HasNode, Ground, Is};
+ghost use Rattle.std.specs.Prelude.{◌≡◌, List, ℕ, ◌+◌, ◌-◌, ◌<◌, ◌≤◌, ◌^◌, length};
+ghost use Rattle.net.specs.Layout.{HasNode, Ground, Is, number};
+ghost use Rattle.net.specs.Op.{code_of};
 ghost use Rattle.judge.specs.Cells.{HasCell};
 ghost use Rattle.judge.specs.Judge.{Judged};
 ghost use Rattle.imply.specs.Posed.{Posed};
@@ -14,84 +14,59 @@ ghost use Rattle.imply.specs.Gather.{Gathered};
 use cube::Cube64;
 use judge::{Known, cells, forward, known_at};
 use net::node::decided;
-use net::{Node, node_at};
-use words::w64;
-
-// The variables that are forced, and their values.
-#[derive(Clone, Copy)]
-pub struct Forced {
-    pub mask: u64,
-    pub values: u64,
-}
+use net::{Node, Op, node_at};
+use words::Word;
 
 // Nothing is wanted of the nodes up to a.
 fn wipe(wants: &mut [u64], a: usize)
     requires { HasCell wants.old a }
     ensures { Wiped a wants.old wants.new }
 {
-    let end = 2 * a + 2;
-    let mut i: usize = 0;
-    while i < end {
-        wants[i] = 0;
-        i += 1;
-    }
+    wants[..2 * a + 2].fill(0);
 }
 
-// Node k is to have the value, unless something is known or wanted of it already.
+// Node k is to have the truth, unless something is known or wanted of it already.
 fn offer(cells: &[u64], wants: &mut [u64], k: usize, want: Known)
-    requires { HasCell cells.now k × HasCell wants.old k × (k < 65535) × (want.value < 3) }
-    ensures { (length wants.new ≡ length wants.old) × ((net : List ℕ) (a t m w : ℕ) → Wanted net a t m w wants.old → Required net a t m w k want.value want.reason → Wanted net a t m w wants.new) }
+    requires { HasCell cells.now k × HasCell wants.old k × (k < 65535) }
+    ensures { (length wants.new ≡ length wants.old) × ((net : List ℕ) (a t m w : ℕ) → Wanted net a t m w wants.old → Required net a t m w k (number want.truth) want.reason → Wanted net a t m w wants.new) }
 {
-    if known_at(cells, k).value != 0 {
-        return;
-    }
-    if known_at(&wants[..], k).value != 0 {
+    if known_at(cells, k).is_some() || known_at(&wants[..], k).is_some() {
         return;
     }
     cells::put(wants, k, want, 0);
 }
 
-// The same want, for more reasons.
-fn also(want: Known, reason: u64) -> Known
-    ensures { (result.value ≡ want.value) × (result.reason ≡ bit_or want.reason reason) }
-{
-    Known {
-        value: want.value,
-        reason: want.reason | reason,
-    }
-}
-
-// What a gate wants of its sides: its undecided truth of both, its decided truth of one if the other has not got it.
+// What a gate that the truth d decides, AND by false and OR by true, wants of its sides: its undecided truth of both, its decided truth of one if the other has not got it.
 fn pass_gate(
     net: &[u64],
     k: usize,
     node: Node,
+    d: bool,
     want: Known,
     cube: Cube64,
     cells: &[u64],
     wants: &mut [u64],
 )
-    requires is { Is net.now k node.op node.left node.right node.mask × (4 ≤ node.op) × (node.op < 6) × (0 < want.value) × (want.value < 3) }
+    requires is { Is net.now k (code_of node.op) node.left node.right node.mask × (4 ≤ code_of node.op) × (code_of node.op < 6) × (number d ≡ code_of node.op - 3) }
     requires grounded { Ground net.now × HasNode net.now k × Judged net.now cube.mask cube.values cells.now × (length net.now ≤ 67 + length wants.old) }
-    ensures { Passed net.now cube.mask cube.values k want.value want.reason wants.old wants.new }
+    ensures { Passed net.now cube.mask cube.values k (number want.truth) want.reason wants.old wants.new }
 {
-    let d = node.op - 3;
-    if want.value != d {
+    if want.truth != d {
         offer(cells, wants, node.left, want);
         offer(cells, wants, node.right, want);
         return;
     }
-    let x = known_at(cells, node.left);
-    if x.value != 0 {
-        if x.value != d {
-            offer(cells, wants, node.right, also(want, x.reason));
+    if let Some(x) = known_at(cells, node.left) {
+        if x.truth != d {
+            let reason = want.reason | x.reason;
+            offer(cells, wants, node.right, Known { reason, ..want });
         }
         return;
     }
-    let y = known_at(cells, node.right);
-    if y.value != 0 {
-        if y.value != d {
-            offer(cells, wants, node.left, also(want, y.reason));
+    if let Some(y) = known_at(cells, node.right) {
+        if y.truth != d {
+            let reason = want.reason | y.reason;
+            offer(cells, wants, node.left, Known { reason, ..want });
         }
     }
 }
@@ -106,11 +81,11 @@ fn pass_quantifier(
     cells: &[u64],
     wants: &mut [u64],
 )
-    requires is { Is net.now k node.op node.left node.right node.mask × (6 ≤ node.op) × (0 < want.value) × (want.value < 3) }
+    requires is { Is net.now k (code_of node.op) node.left node.right node.mask × (6 ≤ code_of node.op) }
     requires grounded { Ground net.now × HasNode net.now k × Judged net.now cube.mask cube.values cells.now × (length net.now ≤ 67 + length wants.old) }
-    ensures { Passed net.now cube.mask cube.values k want.value want.reason wants.old wants.new }
+    ensures { Passed net.now cube.mask cube.values k (number want.truth) want.reason wants.old wants.new }
 {
-    if want.value == decided(node.op) {
+    if want.truth == decided(node.op) {
         return;
     }
     if cube.mask & node.mask == 0 {
@@ -128,43 +103,34 @@ fn pass(
     cells: &[u64],
     wants: &mut [u64],
 )
-    requires is { Is net.now k node.op node.left node.right node.mask × (0 < want.value) × (want.value < 3) }
+    requires is { Is net.now k (code_of node.op) node.left node.right node.mask }
     requires grounded { Ground net.now × HasNode net.now k × Judged net.now cube.mask cube.values cells.now × (length net.now ≤ 67 + length wants.old) }
-    ensures { Passed net.now cube.mask cube.values k want.value want.reason wants.old wants.new }
+    ensures { Passed net.now cube.mask cube.values k (number want.truth) want.reason wants.old wants.new }
 {
-    let op = node.op;
-    if op < 3 {
-        return;
-    }
-    if op == 3 {
-        offer(
+    match node.op {
+        Op::False | Op::True | Op::Input => {}
+        Op::Not => offer(
             cells,
             wants,
             node.left,
             Known {
-                value: 3 - want.value,
-                reason: want.reason,
+                truth: !want.truth,
+                ..want
             },
-        );
-        return;
+        ),
+        Op::And => pass_gate(net, k, node, false, want, cube, cells, wants),
+        Op::Or => pass_gate(net, k, node, true, want, cube, cells, wants),
+        Op::Exists | Op::Forall => pass_quantifier(net, k, node, want, cube, cells, wants),
     }
-    if op < 6 {
-        pass_gate(net, k, node, want, cube, cells, wants);
-        return;
-    }
-    pass_quantifier(net, k, node, want, cube, cells, wants);
 }
 
-fn with(values: u64, p: u64, value: u8) -> u64
-    ensures { (x : ℕ) → p ≡ 2 ^ x → Valued values x value result }
+fn with(values: u64, p: u64, truth: bool) -> u64
+    ensures { (x : ℕ) → p ≡ 2 ^ x → Valued values x (number truth) result }
 {
-    if value == 2 {
-        return values | p;
-    }
-    values
+    if truth { values | p } else { values }
 }
 
-// A loose variable that node k reads has the value that is wanted of the node.
+// A loose variable that node k reads has the truth that is wanted of the node.
 fn take(
     net: &[u64],
     k: usize,
@@ -172,26 +138,23 @@ fn take(
     want: Known,
     loose: u64,
     whys: &mut [u64; 64],
-    f: Forced,
-) -> Forced
-    requires { Is net.now k node.op node.left node.right node.mask × Ground net.now }
-    ensures { (a t m w : ℕ) → Required net.now a t m w k want.value want.reason → Forcing net.now a t loose m w f.mask f.values whys.old → Forcing net.now a t loose m w result.mask result.values whys.new }
+    f: Cube64,
+) -> Cube64
+    requires { Is net.now k (code_of node.op) node.left node.right node.mask × Ground net.now }
+    ensures { (a t m w : ℕ) → Required net.now a t m w k (number want.truth) want.reason → Forcing net.now a t loose m w f.mask f.values whys.old → Forcing net.now a t loose m w result.mask result.values whys.new }
 {
-    if node.op != 2 {
+    let Op::Input = node.op else {
         return f;
-    }
+    };
     let left = node.left;
     let x = forward::variable(left);
-    if !w64::has(loose, x) {
+    if !loose.has(x) || f.mask.has(x) {
         return f;
     }
-    if w64::has(f.mask, x) {
-        return f;
-    }
-    let p = w64::one(x);
-    let values = with(f.values, p, want.value);
+    let p = u64::one(x);
+    let values = with(f.values, p, want.truth);
     whys[left] = want.reason;
-    Forced {
+    Cube64 {
         mask: f.mask | p,
         values,
     }
@@ -206,60 +169,44 @@ fn force_at(
     cells: &[u64],
     wants: &mut [u64],
     whys: &mut [u64; 64],
-    f: Forced,
-) -> Forced
+    f: Cube64,
+) -> Cube64
     requires { Ground net.now × HasNode net.now k × Judged net.now cube.mask cube.values cells.now × (length net.now ≤ 67 + length wants.old) }
     ensures { (length wants.new ≡ length wants.old) × ((a t : ℕ) → k ≤ a → Wanted net.now a t cube.mask cube.values wants.old → Forcing net.now a t loose cube.mask cube.values f.mask f.values whys.old → Wanted net.now a t cube.mask cube.values wants.new × Forcing net.now a t loose cube.mask cube.values result.mask result.values whys.new) }
 {
-    let want = known_at(&wants[..], k);
-    if want.value == 0 {
+    let Some(want) = known_at(&wants[..], k) else {
         return f;
-    }
-    if want.value > 2 {
-        return f;
-    }
+    };
     let node = node_at(net, k);
     pass(net, k, node, want, cube, cells, wants);
     take(net, k, node, want, loose, whys, f)
 }
 
-// The loose variables that must have a value for node a to have the target's truth; `whys` has the reason of each.
+// The loose variables that must have a value for node a to have the target's truth, with these values; `whys` has the reason of each.
 pub fn force(
     net: &[u64],
     a: usize,
-    target: u8,
+    target: bool,
     loose: u64,
     cube: Cube64,
     cells: &[u64],
     wants: &mut [u64],
     whys: &mut [u64; 64],
-) -> Forced
-    requires { Posed net.now a target loose cube.mask cube.values cells.now × (length whys.old ≡ 64) × (length net.now ≤ 67 + length wants.old) }
-    ensures { Forcing net.now a target loose cube.mask cube.values result.mask result.values whys.new × (length wants.new ≡ length wants.old) }
+) -> Cube64
+    requires { Posed net.now a (number target) loose cube.mask cube.values cells.now × (length whys.old ≡ 64) × (length net.now ≤ 67 + length wants.old) }
+    ensures { Forcing net.now a (number target) loose cube.mask cube.values result.mask result.values whys.new × (length wants.new ≡ length wants.old) }
 {
     wipe(wants, a);
-    offer(
-        cells,
-        wants,
-        a,
-        Known {
-            value: target,
-            reason: 0,
-        },
-    );
-    let mut f = Forced { mask: 0, values: 0 };
-    let mut i = a + 1;
-    while i > 0 {
-        i -= 1;
-        f = force_at(net, i, loose, cube, cells, wants, whys, f);
+    let want = Known {
+        truth: target,
+        reason: 0,
+    };
+    offer(cells, wants, a, want);
+    let mut f = Cube64::UNFIXED;
+    for k in (0..a + 1).rev() {
+        f = force_at(net, k, loose, cube, cells, wants, whys, f);
     }
     f
-}
-
-fn index(x: u8) -> usize
-    ensures { result ≡ x }
-{
-    x as usize
 }
 
 // The reasons of some forced variables, together.
@@ -269,9 +216,9 @@ pub fn gather(whys: &[u64; 64], some: u64) -> u64
     let mut left = some;
     let mut r: u64 = 0;
     while left != 0 {
-        let x = w64::highest(left);
-        r = r | whys[index(x)];
-        left = w64::without(left, w64::one(x));
+        let x = left.highest();
+        r |= whys[usize::from(x)];
+        left = left.without(u64::one(x));
     }
     r
 }

@@ -1,3 +1,4 @@
+pub mod Told
 pub mod Cells
 pub mod CellLaws
 pub mod Judge

@@ -3,7 +3,7 @@ ghost use Rattle.std.specs.Prelude.{◌+◌, ◌*◌, ◌<◌, ◌≤◌, length
 ghost use Rattle.net.specs.Layout.{HasNode, Ground};
 
 use net::links;
-use words::w64;
+use words::Word;
 
 // Marks node k, if it is not past a.
 fn mark(marks: &mut [u64], k: usize, a: usize)
@@ -72,9 +72,9 @@ pub fn mark_readers(net: &[u64], variables: u64, a: usize, marks: &mut [u64])
 {
     let mut left = variables;
     while left != 0 {
-        let x = w64::highest(left);
+        let x = left.highest();
         mark_variable(net, x, a, marks);
-        left = w64::without(left, w64::one(x));
+        left = left.without(u64::one(x));
     }
 }
 
@@ -82,21 +82,9 @@ pub fn mark_readers(net: &[u64], variables: u64, a: usize, marks: &mut [u64])
 pub fn mark_behind(net: &[u64], a: usize, marks: &mut [u64])
     requires { Ground net.now × HasNode net.now a × (a < 64 * length marks.old) }
 {
-    let mut k = net::frames(net);
-    while k <= a {
+    for k in net::frames(net)..=a {
         mark(marks, k, a);
-        k += 1;
     }
-}
-
-fn zeros(w: u64) -> usize
-    ensures { result ≤ 64 }
-{
-    let z = u64::trailing_zeros(w);
-    if z < 64 {
-        return z as usize;
-    }
-    64
 }
 
 // The lowest marked node from k to a; past a, some greater number.
@@ -108,7 +96,7 @@ pub fn next(marks: &[u64], k: usize, a: usize) -> usize
     while at <= a {
         let w = marks[at / 64] >> (at % 64);
         if w != 0 {
-            return at + zeros(w);
+            return at + w.trailing_zeros() as usize;
         }
         at = (at / 64 + 1) * 64;
     }

@@ -1,17 +1,20 @@
-// Three-valued judging of nodes under a partial assignment, with a reason for each known value.
-ghost use Rattle.std.specs.Prelude.{◌≡◌, List, ℕ, ◌*◌, ◌<◌, length};
-ghost use Rattle.net.specs.Layout.{HasNode, Ground};
+// Three-valued judging of nodes under a partial assignment, with a reason for each known truth.
+ghost use Rattle.std.specs.Prelude.{◌≡◌, List, ℕ, ◌*◌, ◌<◌, ◌≤◌, length};
+ghost use Rattle.net.specs.Layout.{HasNode, Ground, number};
+ghost use Rattle.net.specs.Op.{code_of};
 ghost use Rattle.judge.specs.Cells.{HasCell, Vacant};
+ghost use Rattle.judge.specs.Told.{value_told, reason_told};
 ghost use Rattle.judge.specs.Judge.{Judged, Right, RightInput, RightLeaf, Negated, Joined, Bound, Judging};
 
-use crate::cells::{Known, known_at};
+use crate::cells::{Known, known_at, shows};
 use crate::{cells, dirty};
 use cube::Cube64;
-use net::node_at;
-use words::w64;
+use net::node::decided;
+use net::{Op, node_at};
+use words::Word;
 
 // Every variable, as a mask: all nodes are to be judged.
-pub const ALL: u64 = 18446744073709551615;
+pub const ALL: u64 = u64::MAX;
 
 pub fn variable(left: usize) -> u8
     requires { left < 64 }
@@ -21,124 +24,109 @@ pub fn variable(left: usize) -> u8
 }
 
 // An input is known where the cube fixes its variable.
-fn input(cube: Cube64, v: u8) -> Known
+fn input(cube: Cube64, v: u8) -> Option<Known>
     requires { v < 64 }
-    ensures { RightInput cube.mask cube.values v result.value result.reason }
+    ensures { RightInput cube.mask cube.values v (value_told result) (reason_told result) }
 {
-    if w64::has(cube.mask, v) {
-        let only = w64::one(v);
-        if w64::has(cube.values, v) {
-            return Known {
-                value: 2,
-                reason: only,
-            };
-        }
-        return Known {
-            value: 1,
-            reason: only,
-        };
+    if !cube.mask.has(v) {
+        return None;
     }
-    Known {
-        value: 0,
-        reason: 0,
-    }
+    Some(Known {
+        truth: cube.values.has(v),
+        reason: u64::one(v),
+    })
 }
 
 // A constant or an input.
-pub fn leaf(op: u8, left: usize, cube: Cube64) -> Known
-    requires { (op < 3) × (op ≡ 2 → left < 64) }
-    ensures { RightLeaf op left cube.mask cube.values result.value result.reason }
+pub fn leaf(op: Op, left: usize, cube: Cube64) -> Option<Known>
+    requires { (code_of op < 3) × (code_of op ≡ 2 → left < 64) }
+    ensures { RightLeaf (code_of op) left cube.mask cube.values (value_told result) (reason_told result) }
 {
-    if op < 2 {
-        return Known {
-            value: op + 1,
+    match op {
+        Op::False => Some(Known {
+            truth: false,
             reason: 0,
-        };
-    }
-    input(cube, variable(left))
-}
-
-pub fn negated(x: Known) -> Known
-    requires { x.value < 4 }
-    ensures { Negated x.value x.reason result.value result.reason }
-{
-    if x.value == 0 {
-        return x;
-    }
-    Known {
-        value: 3 - x.value,
-        reason: x.reason,
+        }),
+        Op::True => Some(Known {
+            truth: true,
+            reason: 0,
+        }),
+        _ => input(cube, variable(left)),
     }
 }
 
-// A gate that the value d decides: AND by 1, OR by 2.
-fn joined(d: u8, x: Known, y: Known) -> Known
-    ensures { Joined d x.value x.reason y.value y.reason result.value result.reason }
+pub fn negated(x: Option<Known>) -> Option<Known>
+    ensures { Negated (value_told x) (reason_told x) (value_told result) (reason_told result) }
 {
-    if x.value == d {
+    let known = x?;
+    Some(Known {
+        truth: !known.truth,
+        ..known
+    })
+}
+
+// A gate that the truth d decides: AND by false, OR by true.
+pub fn joined(d: bool, x: Option<Known>, y: Option<Known>) -> Option<Known>
+    ensures { Joined (number d) (value_told x) (reason_told x) (value_told y) (reason_told y) (value_told result) (reason_told result) }
+{
+    if shows(x, d) {
         return x;
     }
-    if y.value == d {
+    if shows(y, d) {
         return y;
     }
-    if x.value == y.value {
-        return Known {
-            value: x.value,
-            reason: x.reason | y.reason,
-        };
-    }
-    Known {
-        value: 0,
-        reason: 0,
-    }
+    let left = x?;
+    let right = y?;
+    Some(Known {
+        reason: left.reason | right.reason,
+        ..left
+    })
 }
 
-// A quantifier over the mask that the value d decides: EXISTS by 2, FORALL by 1.
-pub fn bound(d: u8, mask: u64, x: Known) -> Known
-    ensures { Bound d mask x.value x.reason result.value result.reason }
+// A quantifier over the mask that the truth d decides: EXISTS by true, FORALL by false.
+pub fn bound(d: bool, mask: u64, x: Option<Known>) -> Option<Known>
+    ensures { Bound (number d) mask (value_told x) (reason_told x) (value_told result) (reason_told result) }
 {
-    if x.value == d {
-        return Known {
-            value: d,
-            reason: w64::without(x.reason, mask),
-        };
+    let known = x?;
+    if known.truth == d {
+        return Some(Known {
+            reason: known.reason.without(mask),
+            ..known
+        });
     }
-    if x.value == 0 {
+    if known.reason & mask == 0 {
         return x;
     }
-    if x.reason & mask == 0 {
-        return x;
-    }
-    Known {
-        value: 0,
-        reason: 0,
-    }
+    None
 }
 
 // What is known of node k, from what is known of the nodes that it names.
-fn judge_node(net: &[u64], k: usize, cube: Cube64, cells: &[u64]) -> Known
+fn judge_node(net: &[u64], k: usize, cube: Cube64, cells: &[u64]) -> Option<Known>
     requires { Ground net.now × HasNode net.now k × Judged net.now cube.mask cube.values cells.now }
-    ensures { Right net.now cube.mask cube.values k result.value result.reason }
+    ensures { Right net.now cube.mask cube.values k (value_told result) (reason_told result) }
 {
     let node = node_at(net, k);
-    let op = node.op;
-    if op < 3 {
-        return leaf(op, node.left, cube);
+    match node.op {
+        Op::False | Op::True | Op::Input => leaf(node.op, node.left, cube),
+        Op::Not => negated(known_at(cells, node.left)),
+        Op::And => joined(
+            false,
+            known_at(cells, node.left),
+            known_at(cells, node.right),
+        ),
+        Op::Or => joined(
+            true,
+            known_at(cells, node.left),
+            known_at(cells, node.right),
+        ),
+        Op::Exists | Op::Forall => bound(decided(node.op), node.mask, known_at(cells, node.left)),
     }
-    let x = known_at(cells, node.left);
-    if op == 3 {
-        return negated(x);
-    }
-    if op < 6 {
-        return joined(op - 3, x, known_at(cells, node.right));
-    }
-    bound(net::node::decided(op), node.mask, x)
 }
 
-// Node k is set to a value that is right, where nothing is known of it yet. The answer is the chain's new head.
+// Node k is set to a truth that is right, where nothing is known of it yet. The answer is the chain's new head.
 pub fn keep(cells: &mut [u64], k: usize, known: Known, head: u16) -> u16
-    requires { HasCell cells.old k × (k < 65535) × (0 < known.value) × (known.value < 3) }
-    ensures { (net : List ℕ) (m w : ℕ) → Judged net m w cells.old → Right net m w k known.value known.reason → Judging net m w cells.old head cells.new result }
+    requires { HasCell cells.old k × (k < 65535) }
+    ensures { (net : List ℕ) (m w : ℕ) → Judged net m w cells.old → Right net m w k (number known.truth) known.reason → Judging net m w cells.old head cells.new result }
 {
     if cells::vacant(&cells[..], k) {
         return cells::put(cells, k, known, head);
@@ -151,11 +139,10 @@ fn judge_vacant(net: &[u64], k: usize, cube: Cube64, cells: &mut [u64], head: u1
     requires { Ground net.now × HasNode net.now k × Judged net.now cube.mask cube.values cells.old × Vacant cells.old k }
     ensures { Judging net.now cube.mask cube.values cells.old head cells.new result }
 {
-    let known = judge_node(net, k, cube, &cells[..]);
-    if known.value == 0 {
-        return head;
+    match judge_node(net, k, cube, &cells[..]) {
+        Some(known) => cells::put(cells, k, known, head),
+        None => head,
     }
-    cells::put(cells, k, known, head)
 }
 
 // Node k is judged where nothing is known of it yet.
@@ -174,13 +161,11 @@ fn judge_all(net: &[u64], a: usize, cube: Cube64, cells: &mut [u64], head: u16) 
     requires { Ground net.now × HasNode net.now a × Judged net.now cube.mask cube.values cells.old }
     ensures { Judging net.now cube.mask cube.values cells.old head cells.new result }
 {
-    let mut k: usize = 0;
     let mut at = head;
-    while k <= a {
+    for k in 0..=a {
         if cells::vacant(&cells[..], k) {
             at = judge_vacant(net, k, cube, cells, at);
         }
-        k += 1;
     }
     at
 }
@@ -220,6 +205,22 @@ fn judge_marked(
     at
 }
 
+// The same, with a set of as many words.
+fn judge_sized<const WORDS: usize>(
+    net: &[u64],
+    a: usize,
+    fresh: u64,
+    cube: Cube64,
+    cells: &mut [u64],
+    head: u16,
+) -> u16
+    requires { Ground net.now × HasNode net.now a × Judged net.now cube.mask cube.values cells.old × (a < 64 * WORDS) × (WORDS ≤ 64) }
+    ensures { Judging net.now cube.mask cube.values cells.old head cells.new result }
+{
+    let mut marks = [0u64; WORDS];
+    judge_marked(net, a, fresh, cube, cells, head, &mut marks)
+}
+
 // The nodes are judged: those that the fresh variables may have touched, or all of them.
 pub fn judge(net: &[u64], a: usize, fresh: u64, cube: Cube64, cells: &mut [u64], head: u16) -> u16
     requires { Ground net.now × HasNode net.now a × Judged net.now cube.mask cube.values cells.old }
@@ -229,9 +230,7 @@ pub fn judge(net: &[u64], a: usize, fresh: u64, cube: Cube64, cells: &mut [u64],
         return judge_all(net, a, cube, cells, head);
     }
     if a < 256 {
-        let mut few = [0u64; 4];
-        return judge_marked(net, a, fresh, cube, cells, head, &mut few);
+        return judge_sized::<4>(net, a, fresh, cube, cells, head);
     }
-    let mut marks = [0u64; 64];
-    judge_marked(net, a, fresh, cube, cells, head, &mut marks)
+    judge_sized::<64>(net, a, fresh, cube, cells, head)
 }

@@ -9,7 +9,7 @@ use borrow.Author.Tests.{eqb-true, eq-eqb, lt-ltb}
 use Rattle.words.specs.Logic.{tests}
 use Rattle.words.proofs.Logic.{by_bool, clash, or_cases, or_left, or_right, not-not}
 use Rattle.words.specs.Word.{bit}
-use Rattle.words.proofs.Word.{bit-and, bit-or, bit-none, bit-pow, bit-ones, bit_complement, ext_below}
+use Rattle.words.proofs.Bits.{bit-and, bit-or, bit-none, bit-pow, bit-ones, bit_complement, ext_below}
 use Rattle.words.specs.Mask.{put, placed}
 use Rattle.words.proofs.Mask.{bit-put, placed_at, placed-other, placed-lt}
 use Rattle.formula.specs.Assignment.{Assignment, On, join}

@@ -5,7 +5,7 @@ use Rattle.std.specs.Int.Bits.{bit_or}
 use Rattle.words.specs.Logic.{tests}
 use Rattle.words.proofs.Logic.{by_bool, clash, or_left, or_right, same_test}
 use Rattle.words.specs.Word.{bit}
-use Rattle.words.proofs.Word.{bit-or, bit-pow}
+use Rattle.words.proofs.Bits.{bit-or, bit-pow}
 use Rattle.net.specs.Net.{Node, Fixed, Reads, Flips, Joins, Binds, Fit, node_fixed}
 use Rattle.net.specs.Layout.{packed, Ground, Is, is-reads, is_flips, is-joins, flips_below, joins-left, joins-right}
 use Rattle.imply.specs.Halves.{or-none}

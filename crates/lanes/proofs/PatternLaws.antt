@@ -8,7 +8,7 @@ use Rattle.std.proofs.lemmas.Nat.{and_mask, and_le_r, or_lt}
 use Rattle.words.specs.Logic.{tests}
 use Rattle.words.proofs.Logic.{by_bool, clash, and_both, not-not, not_flip}
 use Rattle.words.specs.Word.{bit}
-use Rattle.words.proofs.Word.{bit-and, bit-or, bit_shr, bit_shl, bit-ones}
+use Rattle.words.proofs.Bits.{bit-and, bit-or, bit_shr, bit_shl, bit-ones}
 use Rattle.words.specs.Mask.{put, without}
 use Rattle.lanes.specs.Pattern.{low, Half, part, copied}
 

@@ -5,7 +5,7 @@ use Rattle.std.specs.Int.Bits.{bit_and, bit_or}
 use Rattle.words.specs.Logic.{tests}
 use Rattle.words.proofs.Logic.{by_bool, clash}
 use Rattle.words.specs.Word.{bit}
-use Rattle.words.proofs.Word.{bit-pow}
+use Rattle.words.proofs.Bits.{bit-pow}
 use Rattle.words.specs.Mask.{Sub, Apart, Top, without}
 use Rattle.words.proofs.Mask.{top_bit, apart-sub, apart-sym, without_sub, without-apart, or_apart, or-sum, bits_apart, bits_sub, one-sub}
 use Rattle.words.proofs.Mask.{sub-or-left, sub-or-right}

@@ -13,11 +13,11 @@ use crate::marks::marked;
 use cube::Cube64;
 use judge::forward::variable;
 use judge::known_at;
-use net::node_at;
-use words::w64;
+use net::{Op, node_at};
+use words::Word;
 
 // Every lane.
-pub const ONES: u64 = 18446744073709551615;
+pub const ONES: u64 = u64::MAX;
 
 // A node's word: its truth in each lane. Where it is false it is so for every setting with the cube's values at the variables of `zero`; where it is true,
 // with those of `one`.
@@ -40,6 +40,7 @@ pub fn row_at(rows: &[u64], k: usize) -> Row
     }
 }
 
+#[tactic(auto, unfolding(crate::specs::Fill::stored))]
 fn keep(rows: &mut [u64], k: usize, row: Row)
     requires { HasRow rows.old k }
     ensures { rows.new ≡ stored rows.old k row.zero row.one row.word }
@@ -88,19 +89,26 @@ fn input(v: u8, w: u64, places: &[u8; 64]) -> Row
             word: t,
         };
     }
-    let only = w64::one(v);
-    constant(w64::has(w, v), only)
+    let only = u64::one(v);
+    constant(w.has(v), only)
+}
+
+// The same word, and its reasons the other way round.
+fn swapped(x: Row) -> Row
+    ensures { (result.zero ≡ x.one) × (result.one ≡ x.zero) × (result.word ≡ x.word) }
+{
+    Row {
+        zero: x.one,
+        one: x.zero,
+        word: x.word,
+    }
 }
 
 fn negated(x: Row) -> Row
     ensures { (result.zero ≡ x.one) × (result.one ≡ x.zero) × Flipped x.word result.word }
 {
-    let t = flip(x.word);
-    Row {
-        zero: x.one,
-        one: x.zero,
-        word: t,
-    }
+    let word = flip(x.word);
+    Row { word, ..swapped(x) }
 }
 
 // The reason of fewer variables.
@@ -139,30 +147,26 @@ fn rested(t: u64, none: u64, r: u64, q: u64) -> u64
     r | q
 }
 
+// A gate with this word that 0 decides; in no lane one of its sides is 1, where the word is `none`.
+fn gate(word: u64, none: u64, x: Row, y: Row) -> Row
+    ensures { (result.word ≡ word) × Chosen word x.word x.zero y.word y.zero result.zero × Rested word none x.one y.one result.one }
+{
+    let zero = chosen(word, x.word, x.zero, y.word, y.zero);
+    let one = rested(word, none, x.one, y.one);
+    Row { zero, one, word }
+}
+
 fn both(x: Row, y: Row) -> Row
     ensures { (result.word ≡ bit_and x.word y.word) × Chosen result.word x.word x.zero y.word y.zero result.zero × Rested result.word 0 x.one y.one result.one }
 {
-    let t = x.word & y.word;
-    let z = chosen(t, x.word, x.zero, y.word, y.zero);
-    let o = rested(t, 0, x.one, y.one);
-    Row {
-        zero: z,
-        one: o,
-        word: t,
-    }
+    gate(x.word & y.word, 0, x, y)
 }
 
+// 1 decides it: the same, with the reasons the other way round.
 fn either(x: Row, y: Row) -> Row
     ensures { (result.word ≡ bit_or x.word y.word) × Chosen result.word x.word x.one y.word y.one result.one × Rested result.word 18446744073709551615 x.zero y.zero result.zero }
 {
-    let t = x.word | y.word;
-    let o = chosen(t, x.word, x.one, y.word, y.one);
-    let z = rested(t, ONES, x.zero, y.zero);
-    Row {
-        zero: z,
-        one: o,
-        word: t,
-    }
+    swapped(gate(x.word | y.word, ONES, swapped(x), swapped(y)))
 }
 
 // The row of node k, which is no quantifier, from those of the nodes that it names.
@@ -171,35 +175,26 @@ fn row_of(net: &[u64], k: usize, w: u64, places: &[u8; 64], rows: &[u64]) -> Row
     ensures { Fill.Row (formula_at net.now k) places.now w result.zero result.one result.word }
 {
     let node = node_at(net, k);
-    let op = node.op;
-    if op < 2 {
-        return constant(op == 1, 0);
+    match node.op {
+        Op::False => constant(false, 0),
+        Op::True => constant(true, 0),
+        Op::Input => input(variable(node.left), w, places),
+        Op::Not => negated(row_at(rows, node.left)),
+        Op::And => both(row_at(rows, node.left), row_at(rows, node.right)),
+        Op::Or => either(row_at(rows, node.left), row_at(rows, node.right)),
+        Op::Exists | Op::Forall => unreachable!(),
     }
-    if op == 2 {
-        return input(variable(node.left), w, places);
-    }
-    let x = row_at(rows, node.left);
-    if op == 3 {
-        return negated(x);
-    }
-    if op == 4 {
-        return both(x, row_at(rows, node.right));
-    }
-    either(x, row_at(rows, node.right))
 }
 
-// Node k's row is stored: the same in every lane where its value is known.
+// Node k's row is stored: the same in every lane where its truth is known.
 fn next(net: &[u64], k: usize, cube: Cube64, places: &[u8; 64], cells: &[u64], rows: &mut [u64])
     requires { Ground net.now × HasNode net.now k × HasRow rows.old k × Judged net.now cube.mask cube.values cells.now × Ripe net.now cells.now places.now cube.values rows.old k }
     ensures { Added net.now places.now cube.values k rows.old rows.new }
 {
-    let known = known_at(cells, k);
-    if known.value != 0 {
-        let row = constant(known.value == 2, known.reason);
-        keep(rows, k, row);
-        return;
-    }
-    let row = row_of(net, k, cube.values, places, &rows[..]);
+    let row = match known_at(cells, k) {
+        Some(known) => constant(known.truth, known.reason),
+        None => row_of(net, k, cube.values, places, &rows[..]),
+    };
     keep(rows, k, row);
 }
 
@@ -216,11 +211,9 @@ pub fn fill(
     requires { Ground net.now × HasNode net.now a × HasRow rows.old a × (a < 64 * length marks.now) × Judged net.now cube.mask cube.values cells.now × Closed net.now cells.now marks.now 0 a }
     ensures { RowAt net.now places.now cube.values rows.new a × (length rows.new ≡ length rows.old) }
 {
-    let mut k: usize = 0;
-    while k <= a {
+    for k in 0..a + 1 {
         if marked(marks, k) {
             next(net, k, cube, places, cells, rows);
         }
-        k += 1;
     }
 }

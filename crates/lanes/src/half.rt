@@ -5,6 +5,7 @@ ghost use Rattle.lanes.specs.Pattern.{Half, part, copied};
 ghost use Rattle.lanes.specs.Lanes.{place};
 
 // The lanes whose bit p is 0.
+#[tactic(auto, unfolding(crate::specs::Pattern::low))]
 pub fn low(p: u8) -> u64
     requires { p < 6 }
     ensures { result ≡ Pattern.low p }
@@ -28,6 +29,7 @@ fn stride(p: u8) -> u8
 }
 
 // The lanes of t where position p is 0 or, for b, 1; moved to those where it is 0.
+#[tactic(auto, unfolding(crate::specs::Pattern::part))]
 fn one_part(t: u64, p: u8, b: bool) -> u64
     requires { p < 6 }
     ensures { result ≡ part t p b }
@@ -40,6 +42,7 @@ fn one_part(t: u64, p: u8, b: bool) -> u64
     t & m
 }
 
+#[tactic(auto, unfolding(crate::specs::Pattern::copied))]
 fn copy_up(h: u64, p: u8) -> u64
     requires { p < 6 }
     ensures { result ≡ copied h p }
@@ -61,6 +64,5 @@ pub fn place_of(places: &[u8; 64], variable: u8) -> u8
     requires { variable < 64 }
     ensures { place places.now variable ≡ result }
 {
-    let at = variable as usize;
-    places[at]
+    places[usize::from(variable)]
 }

@@ -1,7 +1,8 @@
 // A search whose open variables are all lanes: the node's word has every candidate.
-ghost use Rattle.std.specs.Prelude.{◌≡◌, true, ℕ, ◌*◌, ◌<◌, length, set};
+ghost use Rattle.std.specs.Prelude.{◌≡◌, ℕ, ◌*◌, ◌<◌, ◌≤◌, length, IfSome};
 ghost use Rattle.words.specs.Mask.{Apart};
 ghost use Rattle.formula.specs.Formula.{Formula};
+ghost use Rattle.net.specs.Layout.{number};
 ghost use Rattle.imply.specs.Posed.{Posed, Searched, Solved};
 ghost use Rattle.lanes.specs.Fill as Fill;
 ghost use Rattle.lanes.specs.Fill.{HasRows, Seated};
@@ -11,26 +12,18 @@ use crate::fill::Row;
 use crate::half::{half, place_of};
 use crate::{fill, marks};
 use cube::Cube64;
-use words::w64;
+use words::Word;
 
 // As many variables have a position.
 const POSITIONS: u32 = 6;
 
-// What a search found, where `settled`: a word with its reason, or that there is none with the reason.
+// What a search found: a word with its reason, or that there is none with the reason.
 #[derive(Clone, Copy)]
 pub struct Settled {
-    pub settled: bool,
     pub found: bool,
     pub word: u64,
     pub reason: u64,
 }
-
-const UNSETTLED: Settled = Settled {
-    settled: false,
-    found: false,
-    word: 0,
-    reason: 0,
-};
 
 // A search on its way: the loose variables that are still to be set, the word so far, and the lanes that are hit, with the reasons: why they are, and why
 // the others are not.
@@ -48,46 +41,36 @@ fn step(at: State, places: &[u8; 64]) -> State
     requires { 0 < at.rest }
     ensures { (result.rest < at.rest) × Onward places.now at.rest at.word at.reason at.other at.hits result.rest result.word result.reason result.other result.hits }
 {
-    let x = w64::highest(at.rest);
-    let only = w64::one(x);
-    let left = w64::without(at.rest, only);
+    let x = at.rest.highest();
+    let only = u64::one(x);
+    let left = at.rest.without(only);
     let p = place_of(places, x);
     if p >= 6 {
-        return State {
-            rest: left,
-            word: at.word,
-            reason: at.reason,
-            other: at.other,
-            hits: at.hits,
-        };
+        return State { rest: left, ..at };
     }
     let lo = half(at.hits, p, false);
     let hi = half(at.hits, p, true);
     if lo == hi {
         return State {
             rest: left,
-            word: at.word,
-            reason: at.reason,
-            other: at.other,
             hits: lo,
+            ..at
         };
     }
-    if lo == 0 {
-        return State {
-            rest: left,
-            word: at.word | only,
-            reason: at.reason | only,
-            other: at.other | only,
-            hits: hi,
-        };
-    }
-    State {
+    let next = State {
         rest: left,
-        word: at.word,
         reason: at.reason | only,
         other: at.other | only,
-        hits: lo,
+        ..at
+    };
+    if lo == 0 {
+        return State {
+            word: at.word | only,
+            hits: hi,
+            ..next
+        };
     }
+    State { hits: lo, ..next }
 }
 
 // Every loose variable is set.
@@ -102,11 +85,10 @@ fn narrow(start: State, places: &[u8; 64]) -> State
 }
 
 // The search for the target from the start.
-fn aim(target: u8, loose: u64, w: u64, row: Row) -> State
-    requires { (0 < target) × (target < 3) }
-    ensures { (result.rest ≡ loose) × (result.word ≡ w) × Aimed target row.zero row.one row.word result.reason result.other result.hits }
+fn aim(target: bool, loose: u64, w: u64, row: Row) -> State
+    ensures { (result.rest ≡ loose) × (result.word ≡ w) × Aimed (number target) row.zero row.one row.word result.reason result.other result.hits }
 {
-    if target == 2 {
+    if target {
         return State {
             rest: loose,
             word: w,
@@ -126,40 +108,37 @@ fn aim(target: u8, loose: u64, w: u64, row: Row) -> State
 }
 
 // What a row says of the search. `lanes` are the variables that have a position.
-fn settle(target: u8, loose: u64, lanes: u64, w: u64, row: Row, places: &[u8; 64]) -> Settled
-    requires { (0 < target) × (target < 3) × Apart w loose × Seated places.now lanes 0 }
-    ensures { (f : Formula) (free : ℕ) → Fill.Row f places.now w row.zero row.one row.word → result.settled ≡ true → Searched f free target loose w result.found result.word result.reason }
+fn settle(
+    target: bool,
+    loose: u64,
+    lanes: u64,
+    w: u64,
+    row: Row,
+    places: &[u8; 64],
+) -> Option<Settled>
+    requires { Apart w loose × Seated places.now lanes 0 }
+    ensures { (f : Formula) (free : ℕ) → Fill.Row f places.now w row.zero row.one row.word → IfSome result (λ s. Searched f free (number target) loose w s.found s.word s.reason) }
 {
     if (row.zero | row.one) & (lanes | loose) > 0 {
-        return UNSETTLED;
+        return None;
     }
     let start = aim(target, loose, w, row);
     if start.hits == 0 {
-        return Settled {
-            settled: true,
+        return Some(Settled {
             found: false,
             word: w,
             reason: start.other,
-        };
+        });
     }
     let end = narrow(start, places);
     if end.hits == fill::ONES {
-        return Settled {
-            settled: true,
+        return Some(Settled {
             found: true,
             word: end.word,
             reason: end.reason,
-        };
+        });
     }
-    UNSETTLED
-}
-
-fn put_seat(places: &mut [u8; 64], variable: u8, p: u8)
-    requires { variable < 64 }
-    ensures { places.new ≡ set places.old variable p }
-{
-    let at = variable as usize;
-    places[at] = p;
+    None
 }
 
 // The variables of the mask get positions, as long as there are any.
@@ -173,10 +152,10 @@ fn seat(mask: u64, places: &mut [u8; 64])
         if top == 0 {
             return;
         }
-        let x = w64::highest(rest);
+        let x = rest.highest();
         top -= 1;
-        put_seat(places, x, top);
-        rest = w64::without(rest, w64::one(x));
+        places[usize::from(x)] = top;
+        rest = rest.without(u64::one(x));
     }
 }
 
@@ -184,23 +163,19 @@ fn seat(mask: u64, places: &mut [u8; 64])
 fn solve_marked(
     net: &[u64],
     a: usize,
-    target: u8,
+    target: bool,
     loose: u64,
     cube: Cube64,
     cells: &[u64],
     rows: &mut [u64],
     marks: &mut [u64],
-) -> Settled
-    requires { Posed net.now a target loose cube.mask cube.values cells.now × HasRows net.now rows.old × (a < 64 * length marks.old) }
-    ensures { (result.settled ≡ true → Solved net.now a target loose cube.values result.found result.word result.reason) × (length rows.new ≡ length rows.old) }
+) -> Option<Settled>
+    requires { Posed net.now a (number target) loose cube.mask cube.values cells.now × HasRows net.now rows.old × (a < 64 * length marks.old) }
+    ensures { IfSome result (λ s. Solved net.now a (number target) loose cube.values s.found s.word s.reason) × (length rows.new ≡ length rows.old) }
 {
-    let reach = marks::live(net, a, cells, marks);
-    if reach.quantified {
-        return UNSETTLED;
-    }
-    let lanes = reach.variables;
-    if u64::count_ones(lanes) > POSITIONS {
-        return UNSETTLED;
+    let lanes = marks::live(net, a, cells, marks)?;
+    if lanes.count_ones() > POSITIONS {
+        return None;
     }
     let mut places = [6u8; 64];
     seat(lanes, &mut places);
@@ -209,27 +184,42 @@ fn solve_marked(
     settle(target, loose, lanes, cube.values, row, &places)
 }
 
+// The same, with a set of as many words.
+fn solve_sized<const WORDS: usize>(
+    net: &[u64],
+    a: usize,
+    target: bool,
+    loose: u64,
+    cube: Cube64,
+    cells: &[u64],
+    rows: &mut [u64],
+) -> Option<Settled>
+    requires { Posed net.now a (number target) loose cube.mask cube.values cells.now × HasRows net.now rows.old × (a < 64 * WORDS) × (WORDS ≤ 64) }
+    ensures { IfSome result (λ s. Solved net.now a (number target) loose cube.values s.found s.word s.reason) × (length rows.new ≡ length rows.old) }
+{
+    let mut marks = [0u64; WORDS];
+    solve_marked(net, a, target, loose, cube, cells, rows, &mut marks)
+}
+
 // Solves node a for the target over the loose variables, where these are few and no quantifier is open. What is known of the nodes under the cube is
 // taken as it is. The rows hold nothing from one call to the next: three words for each node that the net has room for.
 pub fn solve(
     net: &[u64],
     a: usize,
-    target: u8,
+    target: bool,
     loose: u64,
     cube: Cube64,
     cells: &[u64],
     rows: &mut [u64],
-) -> Settled
-    requires { Posed net.now a target loose cube.mask cube.values cells.now × HasRows net.now rows.old }
-    ensures { (result.settled ≡ true → Solved net.now a target loose cube.values result.found result.word result.reason) × (length rows.new ≡ length rows.old) }
+) -> Option<Settled>
+    requires { Posed net.now a (number target) loose cube.mask cube.values cells.now × HasRows net.now rows.old }
+    ensures { IfSome result (λ s. Solved net.now a (number target) loose cube.values s.found s.word s.reason) × (length rows.new ≡ length rows.old) }
 {
-    if u64::count_ones(loose) > POSITIONS {
-        return UNSETTLED;
+    if loose.count_ones() > POSITIONS {
+        return None;
     }
     if a < 256 {
-        let mut few = [0u64; 4];
-        return solve_marked(net, a, target, loose, cube, cells, rows, &mut few);
+        return solve_sized::<4>(net, a, target, loose, cube, cells, rows);
     }
-    let mut nodes = [0u64; 64];
-    solve_marked(net, a, target, loose, cube, cells, rows, &mut nodes)
+    solve_sized::<64>(net, a, target, loose, cube, cells, rows)
 }

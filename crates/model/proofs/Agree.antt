@@ -3,7 +3,7 @@ use Rattle.std.specs.Prelude.{ℕ, zero, suc, ◌<◌, ◌≡◌, refl, false, L
 use Rattle.std.proofs.Common.{arith, sym, ◌∙◌, eq-eqb, eqb-true}
 use Rattle.words.proofs.Logic.{by_bool}
 use Rattle.words.specs.Word.{bit}
-use Rattle.words.proofs.Word.{bit-or, bit-pow, bit-none}
+use Rattle.words.proofs.Bits.{bit-or, bit-pow, bit-none}
 use Rattle.formula.specs.Assignment.{Assignment, On}
 use Rattle.model.specs.declared.Entry.{Entry}
 use Rattle.model.specs.Model.{Meaning, entered_mask, entered_values}

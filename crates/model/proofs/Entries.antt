@@ -7,7 +7,7 @@ use Rattle.std.specs.Int.Bits.{bit_or, or_zero_r}
 use Rattle.words.specs.Logic.{tests}
 use Rattle.words.proofs.Logic.{by_bool, clash, and_both, or_cases, or_left, or_right}
 use Rattle.words.specs.Word.{bit}
-use Rattle.words.proofs.Word.{bit-or, bit-pow, bit-none, ext}
+use Rattle.words.proofs.Bits.{bit-or, bit-pow, bit-none, ext}
 use Rattle.words.specs.Mask.{Sub}
 use Rattle.words.proofs.Mask.{sub-bits, bit-mask_of, mask_of-lt, sub-le}
 use Rattle.formula.specs.Formula.{Formula, free}

@@ -1,11 +1,12 @@
 -- A net as one list of words, which a run lends to every line: how many frames, the free variables of the last one, the gauges, the links of `link`, and two
 -- words a node. What can be read off the words is the net `packed`. Assumes nothing.
-use Rattle.std.specs.Prelude.{ℕ, ◌+◌, ◌-◌, ◌*◌, ◌/◌, ◌%◌, ◌<◌, ◌≤◌, ◌≡◌, Bool, not, cond, List, length, get_or, ltb}
-use Rattle.std.proofs.Common.{arith, ◌∙◌, subst, eq-eqb, ne_eqb}
+use Rattle.std.specs.Prelude.{ℕ, ◌+◌, ◌-◌, ◌*◌, ◌/◌, ◌%◌, ◌<◌, ◌≤◌, ◌≡◌, refl, Bool, true, false, not, cond, List, length, get_or, ltb}
+use Rattle.std.proofs.Common.{arith, sym, ◌∙◌, subst, eq-eqb, ne_eqb}
 use Rattle.std.proofs.Math.Path.{ap}
 use Rattle.std.proofs.Math.Dec.{eqb}
 use Rattle.words.specs.Logic.{tests}
-use Rattle.words.proofs.Logic.{by_bool}
+use Rattle.std.specs.Bool.{beq}
+use Rattle.words.proofs.Logic.{by_bool, clash}
 use Rattle.formula.specs.Formula.{Formula, never, input, neg, gate}
 use Rattle.formula.specs.Ask.{Bounded}
 use Rattle.form.specs.Form.{form_of}
@@ -98,6 +99,44 @@ val-not v t a b c d n =
 
 pub val_flip : (v : ℕ) → 0 < v → v < 3 → val (3 - v) ≡ not (val v)
 val_flip v a b = val-not (3 - v) v (omega arith) (omega arith) a b (λ e. omega arith)
+
+-- and the number of a truth
+abbrev pub number : Bool → ℕ
+number true = 2
+number false = 1
+
+pub val_number : (d : Bool) → val (number d) ≡ d
+unfolding val
+val_number true = refl
+val_number false = refl
+
+pub number-some : (d : Bool) → 0 < number d
+number-some true = omega arith
+number-some false = omega arith
+
+pub number-low : (d : Bool) → number d < 3
+number-low true = omega arith
+number-low false = omega arith
+
+pub number-not : (d : Bool) → number (not d) ≡ 3 - number d
+number-not true = refl
+number-not false = refl
+
+pub number_same : {d e : Bool} → number d ≡ number e → d ≡ e
+number_same {d} {e} h = sym (val_number d) ∙ ap val h ∙ val_number e
+
+-- as the code tests two truths
+pub number-is : (d e : Bool) → beq d e ≡ true → number d ≡ number e
+number-is true true h = refl
+number-is true false h = clash false h refl
+number-is false true h = clash false h refl
+number-is false false h = refl
+
+pub number_other : (d e : Bool) → beq d e ≡ false → number d ≡ number e → ⊥
+number_other true true h n = clash true refl h
+number_other true false h n = omega arith
+number_other false true h n = omega arith
+number_other false false h n = clash true refl h
 
 -- the truth that decides a quantifier: true an EXISTS, false a FORALL
 unfoldable pub decides : ℕ → ℕ

@@ -1,3 +1,4 @@
+pub mod Op
 pub mod Net
 pub mod Clear
 pub mod Decode

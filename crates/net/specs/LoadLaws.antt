@@ -21,7 +21,7 @@ use Rattle.sheet.proofs.Frames.{kind-past}
 use Rattle.sheet.specs.Frames as Sheets
 use Rattle.sheet.proofs.Frames as SheetsLaws
 use Rattle.sheet.specs.Rules.{binds, gauges}
-use Rattle.sheet.proofs.Accepted.{ordered-bounded}
+use Rattle.sheet.proofs.AcceptedLaws.{ordered-bounded}
 use Rattle.net.specs.Net.{Fixed, Binds, Net, meaning, fit_at, replace-here, replace-other, Ranged, Clear, Distinct}
 use Rattle.net.specs.Decode.{node_of_kind, decoded, decoded-ordered, decoded-value, decoded-free}
 use Rattle.net.specs.Layout.{net_words, form_words, first_word, second_word, unpack, packed}

@@ -9,5 +9,5 @@ mod rewrite;
 
 pub use decode::load;
 pub use links::link;
-pub use node::{Node, changed, form, frames, free, gauges, node_at};
+pub use node::{Node, Op, changed, form, frames, free, gauges, node_at};
 pub use own::{choose, forget};

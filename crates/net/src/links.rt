@@ -5,7 +5,7 @@ ghost use Rattle.std.specs.Prelude.{◌≡◌, ◌<◌, length, get_or};
 ghost use Rattle.net.specs.Layout.{frames_of, first_word, HasNode, Ground};
 ghost use Rattle.net.specs.Link.{low_part, Linked};
 
-use crate::node::{NODES, frames, node_at};
+use crate::node::{NODES, Op, frames, node_at};
 
 // Where the links of the variables begin.
 pub const READERS: usize = 3;
@@ -17,14 +17,33 @@ const LEFT: u64 = 1099511627776;
 
 const RIGHT: u64 = 4503599627370496;
 
+// Which link of a node's first word.
+#[derive(Clone, Copy)]
+enum Field {
+    Users,
+    Left,
+    Right,
+}
+
 // ---- reading
+
+fn link_in(word: u64, field: Field) -> usize
+    ensures { result < 4096 }
+{
+    let link = match field {
+        Field::Users => word / USERS % 4096,
+        Field::Left => word / LEFT % 4096,
+        Field::Right => word / RIGHT,
+    };
+    link as usize
+}
 
 // The last node that names node k.
 pub fn user_of(net: &[u64], k: usize) -> usize
     requires { HasNode net.now k }
     ensures { result < 4096 }
 {
-    (net[NODES + 2 * k] / USERS % 4096) as usize
+    link_in(net[NODES + 2 * k], Field::Users)
 }
 
 // The last node that reads the variable.
@@ -32,7 +51,7 @@ pub fn reader_of(net: &[u64], variable: u8) -> usize
     requires { (variable < 64) × (67 < length net.now) }
     ensures { result < 4096 }
 {
-    (net[READERS + variable as usize] % 4096) as usize
+    (net[READERS + usize::from(variable)] % 4096) as usize
 }
 
 // The node that reads the variable of node k, or names what it names on its left side, before it.
@@ -40,7 +59,7 @@ pub fn next_left(net: &[u64], k: usize) -> usize
     requires { HasNode net.now k }
     ensures { result < 4096 }
 {
-    (net[NODES + 2 * k] / LEFT % 4096) as usize
+    link_in(net[NODES + 2 * k], Field::Left)
 }
 
 // The node that names node i before node k does.
@@ -49,33 +68,23 @@ pub fn next_user(net: &[u64], k: usize, i: usize) -> usize
     ensures { result < 4096 }
 {
     let word = net[NODES + 2 * k];
-    if (word / 16 % 4096) as usize == i {
-        return (word / LEFT % 4096) as usize;
-    }
-    (word / RIGHT) as usize
+    let on_left = (word / 16 % 4096) as usize == i;
+    link_in(word, if on_left { Field::Left } else { Field::Right })
 }
 
 // ---- making
 
-fn with_users(word: u64, link: usize) -> u64
+#[tactic(auto, unfolding(crate::specs::Link::low_part))]
+fn with_link(word: u64, field: Field, link: usize) -> u64
     requires { link < 4096 }
     ensures { low_part result ≡ low_part word }
 {
-    word % USERS + USERS * (link as u64) + word / LEFT * LEFT
-}
-
-fn with_left(word: u64, link: usize) -> u64
-    requires { link < 4096 }
-    ensures { low_part result ≡ low_part word }
-{
-    word % LEFT + LEFT * (link as u64) + word / RIGHT * RIGHT
-}
-
-fn with_right(word: u64, link: usize) -> u64
-    requires { link < 4096 }
-    ensures { low_part result ≡ low_part word }
-{
-    word % RIGHT + RIGHT * (link as u64)
+    let link = link as u64;
+    match field {
+        Field::Users => word % USERS + USERS * link + word / LEFT * LEFT,
+        Field::Left => word % LEFT + LEFT * link + word / RIGHT * RIGHT,
+        Field::Right => word % RIGHT + RIGHT * link,
+    }
 }
 
 fn word_at(net: &[u64], k: usize) -> u64
@@ -100,32 +109,20 @@ fn link_variable(net: &mut [u64], k: usize, variable: usize)
 {
     let at = READERS + variable;
     let before = (net[at] % 4096) as usize;
-    let word = with_left(word_at(&net[..], k), before);
+    let word = with_link(word_at(&net[..], k), Field::Left, before);
     relink(net, k, word);
     net[at] = (k + 1) as u64;
 }
 
-// Node k becomes the last that names node i, its left side.
-fn link_left(net: &mut [u64], k: usize, i: usize)
+// Node k becomes the last that names node i, which stands on that side of it.
+fn link_named(net: &mut [u64], k: usize, side: Field, i: usize)
     requires { Ground net.old × (k < frames_of net.old) × (i < k) }
     ensures { Linked net.old net.new }
 {
     let before = user_of(&net[..], i);
-    let word = with_left(word_at(&net[..], k), before);
+    let word = with_link(word_at(&net[..], k), side, before);
     relink(net, k, word);
-    let named = with_users(word_at(&net[..], i), k + 1);
-    relink(net, i, named);
-}
-
-// The same of its right side.
-fn link_right(net: &mut [u64], k: usize, i: usize)
-    requires { Ground net.old × (k < frames_of net.old) × (i < k) }
-    ensures { Linked net.old net.new }
-{
-    let before = user_of(&net[..], i);
-    let word = with_right(word_at(&net[..], k), before);
-    relink(net, k, word);
-    let named = with_users(word_at(&net[..], i), k + 1);
+    let named = with_link(word_at(&net[..], i), Field::Users, k + 1);
     relink(net, i, named);
 }
 
@@ -135,25 +132,17 @@ fn link_at(net: &mut [u64], k: usize)
     ensures { Linked net.old net.new }
 {
     let node = node_at(&net[..], k);
-    if node.op < 2 {
-        link_variable(net, k, 0);
-        return;
+    match node.op {
+        Op::False | Op::True => link_variable(net, k, 0),
+        Op::Input => link_variable(net, k, node.left),
+        Op::Not | Op::Exists | Op::Forall => link_named(net, k, Field::Left, node.left),
+        Op::And | Op::Or => {
+            link_named(net, k, Field::Left, node.left);
+            if node.right != node.left {
+                link_named(net, k, Field::Right, node.right);
+            }
+        }
     }
-    if node.op == 2 {
-        link_variable(net, k, node.left);
-        return;
-    }
-    link_left(net, k, node.left);
-    if node.op == 3 {
-        return;
-    }
-    if node.op > 5 {
-        return;
-    }
-    if node.right == node.left {
-        return;
-    }
-    link_right(net, k, node.right);
 }
 
 // The links of every node.
@@ -161,10 +150,7 @@ pub fn link(net: &mut [u64])
     requires { Ground net.old }
     ensures { Linked net.old net.new }
 {
-    let n = frames(&net[..]);
-    let mut k: usize = 0;
-    while k < n {
+    for k in 0..frames(&net[..]) {
         link_at(net, k);
-        k += 1;
     }
 }

@@ -5,9 +5,10 @@
 //   3 to 66    for each variable the last node that reads it (links.rt)
 //   67 + 2k    node k: three bits of op, whether it is changed, twelve of left, twelve of right, and three links of twelve bits (links.rt)
 //   68 + 2k    its mask
-ghost use Rattle.std.specs.Prelude.{◌≡◌, ℕ, ◌+◌, ◌*◌, ◌<◌, length, set};
+ghost use Rattle.std.specs.Prelude.{◌≡◌, ℕ, ◌+◌, ◌*◌, ◌%◌, ◌<◌, ◌≤◌, true, false, length, set};
+ghost use Rattle.net.specs.Op.{code_of};
 ghost use Rattle.net.specs.Net.{node_of};
-ghost use Rattle.net.specs.Layout.{net_form, frames_of, free_of, gauges_of, first_word, second_word, HasNode, unpack, changed, Is, decides};
+ghost use Rattle.net.specs.Layout.{net_form, frames_of, free_of, gauges_of, first_word, second_word, HasNode, unpack, changed, Is, number, decides};
 
 use form::Form;
 
@@ -18,16 +19,60 @@ pub const NODES: usize = 67;
 const NARROW_WORDS: usize = 473;
 
 // The form of the net's sheet: a wide one has room for more nodes.
+#[tactic(auto, unfolding(crate::specs::Layout::net_form))]
 pub fn form(net: &[u64]) -> Form
     ensures { result ≡ net_form net.now }
 {
     form::of(net.len() > NARROW_WORDS)
 }
 
-// A node. op: 0 false, 1 true, 2 INPUT left, 3 NOT left, 4 AND, 5 OR, 6 EXISTS mask left, 7 FORALL mask left.
+// What a node is. An INPUT has its variable on its left side, a NOT and a quantifier the node under it.
+#[derive(Clone, Copy, PartialEq, Eq)]
+pub enum Op {
+    False,
+    True,
+    Input,
+    Not,
+    And,
+    Or,
+    Exists,
+    Forall,
+}
+
+impl Op {
+    // The number by which a word tells it.
+    pub fn code(self) -> u64
+        ensures { result ≡ code_of self }
+    {
+        self as u64
+    }
+
+    pub fn is_quantifier(self) -> bool
+        ensures { (result ≡ true → 6 ≤ code_of self) × (result ≡ false → code_of self < 6) }
+    {
+        matches!(self, Op::Exists | Op::Forall)
+    }
+}
+
+// What the three low bits of a word say.
+fn op_of(word: u64) -> Op
+    ensures { code_of result ≡ word % 8 }
+{
+    match word % 8 {
+        0 => Op::False,
+        1 => Op::True,
+        2 => Op::Input,
+        3 => Op::Not,
+        4 => Op::And,
+        5 => Op::Or,
+        6 => Op::Exists,
+        _ => Op::Forall,
+    }
+}
+
 #[derive(Clone, Copy)]
 pub struct Node {
-    pub op: u8,
+    pub op: Op,
     pub left: usize,
     pub right: usize,
     pub mask: u64,
@@ -56,13 +101,13 @@ pub fn gauges(net: &[u64]) -> u64
 
 pub fn node_at(net: &[u64], k: usize) -> Node
     requires { HasNode net.now k }
-    ensures is { Is net.now k result.op result.left result.right result.mask }
-    ensures op_bound { (result.op < 8) × (result.left < 4096) × (result.right < 4096) }
+    ensures is { Is net.now k (code_of result.op) result.left result.right result.mask }
+    ensures op_bound { (code_of result.op < 8) × (result.left < 4096) × (result.right < 4096) }
 {
     let at = NODES + 2 * k;
     let word = net[at];
     Node {
-        op: (word % 8) as u8,
+        op: op_of(word),
         left: (word / 16 % 4096) as usize,
         right: (word / 65536 % 4096) as usize,
         mask: net[at + 1],
@@ -70,6 +115,7 @@ pub fn node_at(net: &[u64], k: usize) -> Node
 }
 
 // Whether node k is changed: it need not stand for its frame, and no record is one of it.
+#[tactic(auto, unfolding(crate::specs::Layout::changed))]
 pub fn changed(net: &[u64], k: usize) -> bool
     requires { HasNode net.now k }
     ensures { result ≡ changed net.now k }
@@ -77,22 +123,21 @@ pub fn changed(net: &[u64], k: usize) -> bool
     net[NODES + 2 * k] % 16 > 7
 }
 
-// The truth that decides a quantifier: 2 an EXISTS, 1 a FORALL.
-pub fn decided(op: u8) -> u8
-    ensures { result ≡ decides op }
+// The truth that decides a quantifier: true an EXISTS, false a FORALL.
+#[tactic(auto, unfolding(crate::specs::Layout::decides))]
+pub fn decided(op: Op) -> bool
+    ensures { number result ≡ decides (code_of op) }
 {
-    if op == 6 {
-        return 2;
-    }
-    1
+    op == Op::Exists
 }
 
 // The first word of a node that is not changed, without links.
-pub fn word(op: u8, left: usize, right: usize) -> u64
-    requires { (op < 8) × (left < 4096) × (right < 4096) }
-    ensures { (mask : ℕ) → unpack result mask ≡ node_of op left right mask }
+#[tactic(auto, using(crate::specs::StoreLaws::word_node))]
+pub fn word(op: Op, left: usize, right: usize) -> u64
+    requires { (left < 4096) × (right < 4096) }
+    ensures { (mask : ℕ) → unpack result mask ≡ node_of (code_of op) left right mask }
 {
-    op as u64 + 16 * (left as u64) + 65536 * (right as u64)
+    op.code() + 16 * (left as u64) + 65536 * (right as u64)
 }
 
 // Stores the words of node k.

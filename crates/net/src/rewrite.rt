@@ -12,22 +12,18 @@ fn nest_at(net: &mut [u64], k: usize)
     ensures { (s : Sheet) → NetOf s net.old → NetOf s net.new }
 {
     let outer = node_at(&net[..], k);
-    if outer.op < 6 {
-        return;
-    }
-    if changed(&net[..], k) {
+    if !outer.op.is_quantifier() || changed(&net[..], k) {
         return;
     }
     let inner = node_at(&net[..], outer.left);
-    if inner.op != outer.op {
-        return;
+    if inner.op == outer.op {
+        put(
+            net,
+            k,
+            word(outer.op, inner.left, 0),
+            outer.mask | inner.mask,
+        );
     }
-    put(
-        net,
-        k,
-        word(outer.op, inner.left, 0),
-        outer.mask | inner.mask,
-    );
 }
 
 // Every node, from the first on, so that a row of quantifiers becomes one.
@@ -35,10 +31,7 @@ pub fn nest(net: &mut [u64])
     requires { (s : Sheet) × NetOf s net.old }
     ensures { (s : Sheet) → NetOf s net.old → NetOf s net.new }
 {
-    let n = frames(&net[..]);
-    let mut k: usize = 0;
-    while k < n {
+    for k in 0..frames(&net[..]) {
         nest_at(net, k);
-        k += 1;
     }
 }

@@ -1,9 +1,9 @@
--- The bytes of frames read back: their number, fields and kinds; frames that are told apart by their fields, and by their words; and the bytes that the code
--- makes of words, which are those of the frames. Assumes nothing.
+-- The bytes of frames read back: their number, fields and kinds; frames that are told apart by their fields; and the bytes of frames as the code stores
+-- them, one frame after the other. Assumes nothing.
 use Prim.Native.Nat.{ℕ, zero, suc, ◌+◌, ◌*◌, ◌/◌, ◌%◌, ◌≤◌, ◌<◌}
-use Rattle.std.proofs.Common.{arith, add-one, ap, ◌∙◌, length-append, take-suc, get_or-append-add, eqb-true, eq-eqb}
+use Rattle.std.proofs.Common.{zero-add, arith, add-one, ap, ◌∙◌, length-append, length-take-le, take-suc, get_or-append-add, eqb-true, eq-eqb}
 use Rattle.std.specs.Prelude.{◌≡◌, true, length, get_or, take, ltb}
-use Rattle.std.proofs.Math.Path.{refl, sym, ap₂}
+use Rattle.std.proofs.Math.Path.{refl, sym}
 use mathlib.Core.List.{List, [], ◌∷◌, ◌++◌, append_assoc, append-nil}
 use Rattle.std.proofs.Math.ListN.{get_or-append, get_or-eq_default}
 use Rattle.std.proofs.lemmas.List.Edits.{sets}
@@ -21,8 +21,7 @@ use Rattle.sheet.specs.declared.Fields.{Fields}
 use Rattle.sheet.specs.declared.Kind.{Kind}
 use Rattle.sheet.specs.declared.Kind.TheVariants.{Never, Input, Not, And, Or, Exists, Forall, Gauge}
 use Rattle.normal.specs.Normal.{fields_of, same_fields, frame_of, frames_bytes}
-use Rattle.normal.specs.Words.{kind_at, Fits, AllFit, word_of, Holds}
-use Rattle.normal.specs.WordBytes.{word_bytes, words_bytes}
+use Rattle.normal.specs.Lists.{kind_at}
 
 -- ---- frames by their fields
 
@@ -57,24 +56,6 @@ fields-same f = rw (eq-eqb f.k f.k refl, eq-eqb f.a f.a refl, eq-eqb f.b f.b ref
 
 pub same_kind : (d e : Kind) → same_fields (fields_of d) (fields_of e) ≡ true → d ≡ e
 same_kind d e h = sym (kind-of d) ∙ ap kind_of (same-fields (fields_of d) (fields_of e) h) ∙ kind-of e
-
--- ---- frames by their words
-
--- two digits of a number to the base 65536
-digits : (x y u v : ℕ) → y < 65536 → v < 65536 → x * 65536 + y ≡ u * 65536 + v → (x ≡ u) × (y ≡ v)
-digits x y u v h l e = (omega arith, omega arith)
-
--- a word, one digit after the other
-nested : (f : Fields) → word_of f ≡ ((f.k * 65536 + f.a) * 65536 + f.b) * 65536 + f.c
-unfolding word_of
-nested f = omega arith
-
-pub word_same : (f g : Fields) → Fits Wide f → Fits Wide g → word_of f ≡ word_of g → f ≡ g
-word_same f g F G e =
-    let low = digits _ f.c _ g.c F.c-fits G.c-fits (sym (nested f) ∙ e ∙ nested g) in
-    let middle = digits _ f.b _ g.b F.b-fits G.b-fits low.0 in
-    let high = digits f.k f.a g.k g.a F.a-fits G.a-fits middle.0 in
-    λ j. record { k = high.0 j; a = high.1 j; b = middle.1 j; c = low.1 j }
 
 -- ---- the bytes of frames
 
@@ -152,26 +133,7 @@ bytes-kind F l k = by_bool (ltb k (length l))
     (λ e. let past : length l ≤ k = omega tests in
     ap kind_of (fields-past (sheet_of F (frames_bytes F l)) k (rw (bytes-frames F l) past)) ∙ no_kind ∙ sym (get_or-eq_default l Never past))
 
--- ---- the bytes of words
-
--- a word has the bytes of the frame that it holds
-word-bytes : (F : Form) (f : Fields) → Fits F f → word_bytes F (word_of f) ≡ frame_of F f
-unfolding word_of
-word-bytes Narrow f fits =
-    let k : word_of f / 281474976710656 % 256 ≡ f.k = omega arith in
-    let a : word_of f / 4294967296 % 256 ≡ f.a = omega arith in
-    let b : word_of f / 65536 % 256 ≡ f.b = omega arith in
-    let c : word_of f % 256 ≡ f.c = omega arith in
-    λ j. k j ∷ a j ∷ b j ∷ c j ∷ []
-word-bytes Wide f fits =
-    let k : word_of f / 281474976710656 % 256 ≡ f.k = omega arith in
-    let a : word_of f / 1099511627776 % 256 ≡ f.a / 256 = omega arith in
-    let a' : word_of f / 4294967296 % 256 ≡ f.a % 256 = omega arith in
-    let b : word_of f / 16777216 % 256 ≡ f.b / 256 = omega arith in
-    let b' : word_of f / 65536 % 256 ≡ f.b % 256 = omega arith in
-    let c : word_of f / 256 % 256 ≡ f.c / 256 = omega arith in
-    let c' : word_of f % 256 ≡ f.c % 256 = omega arith in
-    λ j. k j ∷ a j ∷ a' j ∷ b j ∷ b' j ∷ c j ∷ c' j ∷ []
+-- ---- the same as the code stores them
 
 frames_append : (F : Form) (l m : List Kind) → frames_bytes F (l ++ m) ≡ frames_bytes F l ++ frames_bytes F m
 unfolding frames_bytes
@@ -186,43 +148,24 @@ frames-suc F l k h =
     ap (frames_bytes F) (take-suc l k Never h) ∙ frames_append F (take k l) (kind_at l k ∷ [])
     ∙ ap (λ (b : List ℕ). frames_bytes F (take k l) ++ b) (append-nil (frame_of F (fields_of (kind_at l k))))
 
-module _ (F : Form) (ws : List ℕ) (l : List Kind) (fits : AllFit F l) (H : Holds ws l) where
-  words_to : (k : ℕ) → k ≤ length l → words_bytes F ws k ≡ frames_bytes F (take k l)
-  unfolding words_bytes frames_bytes
-  words_to zero h = refl
-  words_to (suc k) h =
-      ap₂ (λ (b c : List ℕ). b ++ c) (words_to k (omega arith))
-      (ap (word_bytes F) (H.words k (omega arith)) ∙ word-bytes F (fields_of (kind_at l k)) (fits k (omega arith)))
-      ∙ sym (frames-suc F l k (omega arith))
+-- a frame that starts before another also ends before it
+pub frame-before : (F : Form) {k n : ℕ} → k < n → frame_start F k + frame_bytes F ≤ frame_start F n
+frame-before Narrow h = omega arith
+frame-before Wide h = omega arith
 
-  pub words-bytes : words_bytes F ws (length l) ≡ frames_bytes F l
-  words-bytes = words_to (length l) (omega arith) ∙ ap (frames_bytes F) (take-length l)
+pub frames_none : (F : Form) (l : List Kind) (out : List ℕ) → sets out 0 (frames_bytes F (take 0 l)) ≡ out
+unfolding frames_bytes
+frames_none F l out = refl
 
--- ---- the same as the code stores them
-
-word-length : (F : Form) (w : ℕ) → length (word_bytes F w) ≡ frame_bytes F
-word-length Narrow w = refl
-word-length Wide w = refl
-
-pub words_length : (F : Form) (ws : List ℕ) (k : ℕ) → length (words_bytes F ws k) ≡ frame_start F k
-unfolding words_bytes
-words_length F ws zero = omega (arith, start_none F 0)
-words_length F ws (suc k) =
-    rw (length-append, words_length F ws k, word-length F (get_or ws k 0)) (omega (arith, start-suc F k 0))
-
-pub words_none : (F : Form) (ws l : List ℕ) → sets l 0 (words_bytes F ws 0) ≡ l
-unfolding words_bytes
-words_none F ws l = refl
-
--- one frame more
-pub words_next : (F : Form) (ws l : List ℕ) (k : ℕ)
-    → sets (sets l 0 (words_bytes F ws k)) (frame_start F k) (word_bytes F (get_or ws k 0)) ≡ sets l 0 (words_bytes F ws (k + 1))
-unfolding words_bytes
-words_next F ws l k =
-    let e : 0 + length (words_bytes F ws k) ≡ frame_start F k = omega (arith, words_length F ws k) in
+pub frames_next : (F : Form) (l : List Kind) (out : List ℕ) (k : ℕ) → k < length l
+    → sets (sets out 0 (frames_bytes F (take k l))) (frame_start F k) (frame_of F (fields_of (kind_at l k))) ≡ sets out 0 (frames_bytes F (take (k + 1) l))
+frames_next F l out k h =
+    let some : k ≤ length l = omega arith in
+    let e : 0 + length (frames_bytes F (take k l)) ≡ frame_start F k = rw zero-add (bytes-length F (take k l) ∙ ap (frame_start F) (length-take-le k l some)) in
     rw (add-one k)
-    (sym (sets_append (words_bytes F ws k) (word_bytes F (get_or ws k 0)) l 0
-    ∙ ap (λ (i : ℕ). sets (sets l 0 (words_bytes F ws k)) i (word_bytes F (get_or ws k 0))) e))
+    (ap (λ (i : ℕ). sets (sets out 0 (frames_bytes F (take k l))) i (frame_of F (fields_of (kind_at l k)))) (sym e)
+    ∙ sym (sets_append (frames_bytes F (take k l)) (frame_of F (fields_of (kind_at l k))) out 0)
+    ∙ ap (sets out 0) (sym (frames-suc F l k h)))
 
-pub words_all : (F : Form) (ws l : List ℕ) {k n : ℕ} → k ≤ n → n ≤ k → sets l 0 (words_bytes F ws k) ≡ sets l 0 (words_bytes F ws n)
-words_all F ws l {k} {n} h g = let e : k ≡ n = omega arith in ap (λ (i : ℕ). sets l 0 (words_bytes F ws i)) e
+pub frames_all : (F : Form) (l : List Kind) (out : List ℕ) {k : ℕ} → k ≡ length l → sets out 0 (frames_bytes F (take k l)) ≡ sets out 0 (frames_bytes F l)
+frames_all F l out e = ap (λ (i : ℕ). sets out 0 (frames_bytes F (take i l))) e ∙ ap (λ (m : List Kind). sets out 0 (frames_bytes F m)) (take-length l)

@@ -1,33 +1,62 @@
--- Steps of the code, from what it tests and calls to what it says: a word sought among words, and a word placed. Assumes nothing.
-use Rattle.std.specs.Prelude.{ℕ, ◌+◌, ◌≤◌, ◌<◌, ◌≡◌, List, get_or, set, ltb}
-use Rattle.std.proofs.Common.{arith, sym, ap, ◌∙◌, subst, lt-ltb, le-ltb}
+-- Steps of the code, from what it tests and calls to what it says: a frame sought behind those that it names, and a frame placed. Assumes nothing.
+use Rattle.std.specs.Prelude.{ℕ, ◌+◌, ◌-◌, ◌≤◌, ◌<◌, ◌≡◌, ◌≢◌, List, length, get_or, set, take, ltb}
+use Rattle.std.proofs.Common.{arith, sym, ap, ◌∙◌, length-take-le, lt-ltb, le-ltb}
+use Rattle.std.specs.List.{AllWithin, HoldsAt, between}
+use Rattle.std.proofs.lemmas.List.Edits.{get_or-between, length-between}
+use Rattle.std.proofs.lemmas.List.{get_or-take}
 use Rattle.words.specs.Logic.{tests}
 use Rattle.words.proofs.Logic.{by_bool}
-use Rattle.normal.specs.Visit.{Found, Puts}
+use Rattle.sheet.specs.declared.Kind.{Kind}
+use Rattle.sheet.specs.declared.Kind.TheVariants.{Never}
+use Rattle.normal.specs.Lists.{kind_at}
+use Rattle.normal.specs.Visit.{first_place, Behind, Puts}
 
--- ---- a word sought among words: none of the first i is w
+module _ (ks : List Kind) (n first : ℕ) (H : first ≤ n) (R : n ≤ length ks) where
+  -- those of the n frames that are behind the first places
+  abbrev later : List Kind
+  later = between first (length (take n ks)) (take n ks)
 
-pub seek_start : (ws : List ℕ) (w : ℕ) → Found ws 0 w 0
-seek_start ws w = record { within = omega arith; hit = λ h. absurd (omega arith); miss = λ j h. absurd (omega arith) }
+  counted : length (take n ks) ≡ n
+  counted = length-take-le n ks R
 
-pub seek_next : {ws : List ℕ} {w i : ℕ} → Found ws i w i → (get_or ws i 0 ≡ w → ⊥) → Found ws (i + 1) w (i + 1)
-seek_next {ws} {w} {i} F d = record {
-  within = omega arith;
-  hit = λ h. absurd (omega arith);
-  miss = λ j h e. by_bool (ltb j i) (λ t. F.miss j (omega (tests, t)) e)
-      (λ t. let q : j ≡ i = omega (tests, t, h) in d (sym (ap (λ (k : ℕ). get_or ws k 0) q) ∙ e));
-}
+  later-length : length later ≡ n - first
+  later-length = rw (length-between (take n ks) first (length (take n ks)) (omega arith), counted)
 
-pub seek_here : {ws : List ℕ} {n w i : ℕ} → Found ws i w i → i < n → get_or ws i 0 ≡ w → Found ws n w i
-seek_here F h e = record { within = omega arith; hit = λ g. e; miss = F.miss }
+  later-at : (k : ℕ) → first + k < n → get_or later k Never ≡ kind_at ks (first + k)
+  later-at k h =
+      get_or-between (take n ks) first (length (take n ks)) k Never (omega (arith, h, counted))
+      ∙ get_or-take n ks (first + k) Never h
 
-pub seek-end : {ws : List ℕ} {n w i : ℕ} → Found ws i w i → i ≤ n → n ≤ i → Found ws n w n
-seek-end {ws} {n} {w} {i} F h g = subst (λ (k : ℕ). Found ws k w k) (omega (arith, h, g)) F
+  module _ {d : Kind} (B : Behind ks n) (F : first ≡ first_place d) where
+    -- none of the first frames names so many, and none of the next m is d
+    missed : (m : ℕ) → first + m ≤ n → AllWithin (λ k. k ≢ d) later 0 m → (j : ℕ) → j < first + m → kind_at ks j ≡ d → ⊥
+    missed m h w j l e = by_bool (ltb j first)
+        (λ t. let b = B.behind j (omega (tests, H)) in let q = ap first_place e in omega (tests, b, q, F))
+        (λ t. let s : first + (j - first) ≡ j = omega tests in
+        w (j - first) Never (omega arith) (omega tests) (later-at (j - first) (omega (tests, h)) ∙ ap (kind_at ks) s ∙ e))
 
--- ---- a word placed
+    pub puts_old : {i : ℕ} → i < length later → HoldsAt (λ k. k ≡ d) later i → AllWithin (λ k. k ≢ d) later 0 i → Puts ks n d ks (first + i) n
+    puts_old {i} h e w =
+        let l : first + i < n = omega (arith, h, later-length, H) in
+        record {
+          found = record {
+            within = omega arith;
+            hit = λ g. sym (later-at i l) ∙ e Never;
+            miss = missed i (omega arith) w;
+          };
+          kinds = rw (lt-ltb (first + i) n l);
+          counted = rw (lt-ltb (first + i) n l);
+        }
 
-pub puts_old : {ws : List ℕ} {n w r : ℕ} → Found ws n w r → r < n → Puts ws n w ws r n
-puts_old {ws} {n} {w} {r} F h = record { found = F; words = rw (lt-ltb r n h); counted = rw (lt-ltb r n h) }
-
-pub puts_new : {ws : List ℕ} {n w r : ℕ} → Found ws n w r → n ≤ r → Puts ws n w (set ws n w) r (n + 1)
-puts_new {ws} {n} {w} {r} F h = record { found = F; words = rw (le-ltb r n h); counted = rw (le-ltb r n h) }
+    pub puts_new : AllWithin (λ k. k ≢ d) later 0 (length later) → Puts ks n d (set ks n d) n (n + 1)
+    puts_new w =
+        let s : first + length later ≡ n = omega (arith, later-length, H) in
+        record {
+          found = record {
+            within = omega arith;
+            hit = λ g. absurd (omega arith);
+            miss = λ j h e. missed (length later) (omega (arith, s)) w j (omega (arith, h, s)) e;
+          };
+          kinds = rw (le-ltb n n (omega arith));
+          counted = rw (le-ltb n n (omega arith));
+        }

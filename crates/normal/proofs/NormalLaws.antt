@@ -14,11 +14,11 @@ use Rattle.sheet.specs.Rules.{last}
 use Rattle.sheet.proofs.Gauges.{gauge_named, some_gauge}
 use Rattle.sheet.specs.Keeps.{Keeps}
 use Rattle.sheet.specs.Accepted.{Accepted}
-use Rattle.sheet.proofs.Accepted.{accepted-sheet, accepted_exactly}
+use Rattle.sheet.proofs.AcceptedLaws.{accepted-sheet, accepted_exactly}
 use Rattle.sheet.specs.declared.Kind.{Kind}
 use Rattle.sheet.specs.declared.Kind.TheVariants.{Never, Input, Not, And, Or, Exists, Forall, Gauge}
 use Rattle.normal.specs.Normal.{reading, place, gauge_of, normal_frames, normal}
-use Rattle.normal.specs.Words.{kind_at}
+use Rattle.normal.specs.Lists.{kind_at}
 use Rattle.normal.proofs.BytesLaws.{bytes-frames, bytes-kind}
 use Rattle.normal.specs.PlaceLaws.{Says, nothing, reads, denies, joins, binds, Frames, Written, formula_at, Places, Every, Below}
 use Rattle.normal.proofs.PlaceLaws.{none_written, place-places, place-every, formula_once}

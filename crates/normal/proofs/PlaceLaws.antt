@@ -14,7 +14,7 @@ use Rattle.sheet.proofs.Frames.{build-same, formula-below}
 use Rattle.sheet.specs.declared.Kind.{Kind}
 use Rattle.sheet.specs.declared.Kind.TheVariants.{Never, Not}
 use Rattle.normal.specs.Normal.{fields_of, same_fields, index, Placed, put, reading, gate_of, quant_of, place}
-use Rattle.normal.specs.Words.{kind_at}
+use Rattle.normal.specs.Lists.{kind_at}
 use Rattle.normal.proofs.BytesLaws.{fields-same, same_kind}
 use Rattle.normal.specs.PlaceLaws.{Below, Every, Formed, Frames, Places, Says, Written, binds, denies, formula_at, joins, nothing, reads}
 

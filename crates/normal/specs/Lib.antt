@@ -1,6 +1,5 @@
 pub mod Normal
-pub mod Words
-pub mod WordBytes
+pub mod Lists
 pub mod PlaceLaws
 pub mod FormulaLaws
 pub mod Few

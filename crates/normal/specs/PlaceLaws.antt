@@ -6,7 +6,7 @@ use Rattle.sheet.specs.Frames.{formula_of}
 use Rattle.sheet.specs.declared.Kind.{Kind}
 use Rattle.sheet.specs.declared.Kind.TheVariants.{Never, Not}
 use Rattle.normal.specs.Normal.{Placed, reading, gate_of, quant_of}
-use Rattle.normal.specs.Words.{kind_at}
+use Rattle.normal.specs.Lists.{kind_at}
 
 -- the formula of frame k of a list
 abbrev pub formula_at : List Kind → ℕ → Formula

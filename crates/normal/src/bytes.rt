@@ -1,101 +1,74 @@
-// Frames as words, and the bytes of the frames that words hold.
-ghost use Rattle.std.specs.Prelude.{◌≡◌, ◌+◌, ◌*◌, ◌%◌, ◌≤◌, length};
+// The bytes of frames, by their kinds.
+ghost use Rattle.std.specs.Prelude.{◌≡◌, ◌+◌, ◌≤◌, length};
 ghost use Rattle.std.proofs.lemmas.List.Edits.{sets};
-ghost use Rattle.form.specs.Form.{form_of, frame_start};
-ghost use Rattle.normal.specs.Words.{word_of};
-ghost use Rattle.normal.specs.WordBytes.{word_bytes, words_bytes};
+ghost use Rattle.form.specs.Form.{frame_bytes, frame_start};
+ghost use Rattle.normal.specs.Normal.{fields_of, frame_of, frames_bytes};
+ghost use Rattle.normal.specs.Lists.{Fits, AllFit};
 
 use form::Form;
+use sheet::{Fields, Kind};
 
-// A field as a number that can be moved up.
-fn digit(x: u16) -> u64
-    ensures { result ≡ x }
+fn fields(k: u8, a: u16, b: u16, c: u16) -> Fields
+    ensures { result ≡ record { k = k; a = a; b = b; c = c } }
 {
-    x as u64
+    Fields { k, a, b, c }
 }
 
-// A frame's kind and fields as one word, sixteen bits each, the kind highest.
-pub fn word(k: u16, a: u16, b: u16, c: u16) -> u64
-    ensures { result ≡ word_of (record { k = k; a = a; b = b; c = c }) }
+// The fields of a frame of this kind, spare ones 0.
+#[tactic(auto, unfolding(crate::specs::Normal::fields_of))]
+fn fields_of(kind: Kind) -> Fields
+    ensures { result ≡ fields_of kind }
 {
-    digit(k) * 281474976710656 + digit(a) * 4294967296 + digit(b) * 65536 + digit(c)
+    match kind {
+        Kind::Never => fields(0, 0, 0, 0),
+        Kind::Input(x) => fields(1, x, 0, 0),
+        Kind::Not(a) => fields(2, a, 0, 0),
+        Kind::And(a, b) => fields(3, a, b, 0),
+        Kind::Or(a, b) => fields(4, a, b, 0),
+        Kind::Exists(a, b, c) => fields(5, a, b, c),
+        Kind::Forall(a, b, c) => fields(6, a, b, c),
+        Kind::Gauge(x) => fields(7, x, 0, 0),
+    }
 }
 
-// The lowest eight bits.
-fn byte(x: u64) -> u8
-    ensures { result ≡ x % 256 }
+// Stores a frame in four bytes.
+fn put_narrow(out: &mut [u8], at: usize, f: Fields)
+    requires { Fits Form.Narrow f × (at + 4 ≤ length out.old) }
+    ensures { out.new ≡ sets out.old at (frame_of Form.Narrow f) }
 {
-    (x % 256) as u8
-}
-
-// Stores the frame that a word holds, in four bytes.
-fn put_narrow(out: &mut [u8], at: usize, word: u64)
-    requires { at + 4 ≤ length out.old }
-    ensures { out.new ≡ sets out.old at (word_bytes Form.Narrow word) }
-{
-    let k = byte(word / 281474976710656);
-    let a = byte(word / 4294967296);
-    let b = byte(word / 65536);
-    let c = byte(word);
-    out[at] = k;
-    out[at + 1] = a;
-    out[at + 2] = b;
-    out[at + 3] = c;
+    let bytes = [f.k, f.a as u8, f.b as u8, f.c as u8];
+    out[at..at + 4].copy_from_slice(&bytes);
 }
 
 // The same in seven, the higher byte of each field first.
-fn put_wide(out: &mut [u8], at: usize, word: u64)
-    requires { at + 7 ≤ length out.old }
-    ensures { out.new ≡ sets out.old at (word_bytes Form.Wide word) }
+fn put_wide(out: &mut [u8], at: usize, f: Fields)
+    requires { Fits Form.Wide f × (at + 7 ≤ length out.old) }
+    ensures { out.new ≡ sets out.old at (frame_of Form.Wide f) }
 {
-    let k = byte(word / 281474976710656);
-    let a1 = byte(word / 1099511627776);
-    let a0 = byte(word / 4294967296);
-    let b1 = byte(word / 16777216);
-    let b0 = byte(word / 65536);
-    let c1 = byte(word / 256);
-    let c0 = byte(word);
-    out[at] = k;
-    out[at + 1] = a1;
-    out[at + 2] = a0;
-    out[at + 3] = b1;
-    out[at + 4] = b0;
-    out[at + 5] = c1;
-    out[at + 6] = c0;
+    let [a1, a0] = f.a.to_be_bytes();
+    let [b1, b0] = f.b.to_be_bytes();
+    let [c1, c0] = f.c.to_be_bytes();
+    let bytes = [f.k, a1, a0, b1, b0, c1, c0];
+    out[at..at + 7].copy_from_slice(&bytes);
 }
 
-// The first frames as narrow ones.
-fn write_narrow(frames: &[u64], count: usize, out: &mut [u8])
-    requires { (count ≤ length frames.now) × (count * 4 ≤ length out.old) }
-    ensures { out.new ≡ sets out.old 0 (words_bytes Form.Narrow frames.now count) }
+// Stores the frame of that number.
+fn put_frame(out: &mut [u8], form: Form, number: usize, f: Fields)
+    requires { Fits form f × (frame_start form number + frame_bytes form ≤ length out.old) }
+    ensures { out.new ≡ sets out.old (frame_start form number) (frame_of form f) }
 {
-    let mut k: usize = 0;
-    while k < count {
-        put_narrow(out, k * 4, frames[k]);
-        k += 1;
+    match form {
+        Form::Narrow => put_narrow(out, number * 4, f),
+        Form::Wide => put_wide(out, number * 7, f),
     }
 }
 
-// And as wide ones.
-fn write_wide(frames: &[u64], count: usize, out: &mut [u8])
-    requires { (count ≤ length frames.now) × (count * 7 ≤ length out.old) }
-    ensures { out.new ≡ sets out.old 0 (words_bytes Form.Wide frames.now count) }
+// Writes the frames from the buffer's start, in the form's bytes.
+pub fn write_frames(kinds: &[Kind], form: Form, out: &mut [u8])
+    requires { AllFit form kinds.now × (frame_start form (length kinds.now) ≤ length out.old) }
+    ensures { out.new ≡ sets out.old 0 (frames_bytes form kinds.now) }
 {
-    let mut k: usize = 0;
-    while k < count {
-        put_wide(out, k * 7, frames[k]);
-        k += 1;
+    for (number, kind) in kinds.iter().enumerate() {
+        put_frame(out, form, number, fields_of(*kind));
     }
-}
-
-// Writes the first frames from the buffer's start, in the form's bytes.
-pub fn write_frames(frames: &[u64], count: usize, wide: bool, out: &mut [u8])
-    requires { (count ≤ length frames.now) × (frame_start (form_of wide) count ≤ length out.old) }
-    ensures { out.new ≡ sets out.old 0 (words_bytes (form_of wide) frames.now count) }
-{
-    if wide {
-        write_wide(frames, count, out);
-        return;
-    }
-    write_narrow(frames, count, out);
 }

@@ -6,9 +6,10 @@ ghost use Rattle.words.specs.Word.{bit};
 ghost use Rattle.net.specs.Layout.{frames_of, free_of, HasNode, Ground, Is};
 ghost use Rattle.net.specs.Link.{Linked};
 
+use form::Form;
 use net::links::READERS;
-use net::node::{Node, frames, free, node_at};
-use words::w64;
+use net::node::{Node, Op, frames, free, node_at};
+use words::Word;
 
 // A weight: how often something is used as it is, in the low 16 bits, and under a NOT, in the 16 above them. More than MOST counts as that.
 const HALF: u64 = 65536;
@@ -21,10 +22,7 @@ const PHASE: u64 = 4096;
 fn capped(x: u64) -> u64
     ensures { result < 65536 }
 {
-    if x > MOST {
-        return MOST;
-    }
-    x
+    x.min(MOST)
 }
 
 fn sum(a: u64, b: u64) -> u64 {
@@ -53,22 +51,15 @@ fn pass(net: &[u64], k: usize, weights: &mut [u64], uses: &mut [u64; 64])
 {
     let weight = weights[k];
     let node = node_at(net, k);
-    let op = node.op;
-    if op < 2 {
-        return;
-    }
-    let left = node.left;
-    if op == 2 {
-        uses[left] = sum(uses[left], weight);
-        return;
-    }
-    if op == 3 {
-        add(weights, left, turned(weight));
-        return;
-    }
-    add(weights, left, weight);
-    if op < 6 {
-        add(weights, node.right, weight);
+    match node.op {
+        Op::False | Op::True => {}
+        Op::Input => uses[node.left] = sum(uses[node.left], weight),
+        Op::Not => add(weights, node.left, turned(weight)),
+        Op::And | Op::Or => {
+            add(weights, node.left, weight);
+            add(weights, node.right, weight);
+        }
+        Op::Exists | Op::Forall => add(weights, node.left, weight),
     }
 }
 
@@ -77,9 +68,7 @@ fn weigh(net: &[u64], n: usize, weights: &mut [u64], uses: &mut [u64; 64])
     requires { Ground net.now × (0 < n) × (n ≤ frames_of net.now) × (length net.now ≤ 67 + 2 * length weights.old) }
 {
     weights[n - 1] = 1;
-    let mut k = n;
-    while k > 0 {
-        k -= 1;
+    for k in (0..n).rev() {
         pass(net, k, weights, uses);
     }
 }
@@ -89,7 +78,7 @@ fn mark(net: &mut [u64], x: u8)
     requires { (x < 64) × Ground net.old }
     ensures { Linked net.old net.new }
 {
-    let at = READERS + x as usize;
+    let at = READERS + usize::from(x);
     net[at] = net[at] % PHASE + PHASE;
 }
 
@@ -106,23 +95,17 @@ fn choose(net: &mut [u64], x: u8, weight: u64, unwanted: bool)
     }
 }
 
-fn index(x: u8) -> usize
-    ensures { result ≡ x }
-{
-    x as usize
-}
-
-// The variables of a quantifier. An EXISTS wants its body true, a FORALL false; `weight` is the quantifier's own.
+// The variables of a quantifier, the highest first, until none is left. An EXISTS wants its body true, a FORALL false; `weight` is the quantifier's own.
 fn choose_bound(net: &mut [u64], node: Node, weight: u64, uses: &[u64; 64])
     requires { Ground net.old }
     ensures { Linked net.old net.new }
 {
-    let unwanted = negative(weight) == (node.op == 6);
+    let unwanted = negative(weight) == (node.op == Op::Exists);
     let mut left = node.mask;
     while left != 0 {
-        let x = w64::highest(left);
-        choose(net, x, uses[index(x)], unwanted);
-        left = w64::without(left, w64::one(x));
+        let x = left.highest();
+        choose(net, x, uses[usize::from(x)], unwanted);
+        left = left.without(u64::one(x));
     }
 }
 
@@ -132,53 +115,29 @@ fn choose_at(net: &mut [u64], k: usize, weight: u64, uses: &[u64; 64])
     ensures { Linked net.old net.new }
 {
     let node = node_at(&net[..], k);
-    if node.op > 5 {
+    if node.op.is_quantifier() {
         choose_bound(net, node, weight, uses);
     }
 }
 
-// The variables of every quantifier, with scratch for the weights that is all 0.
-fn choose_in(net: &mut [u64], n: usize, weights: &mut [u64])
-    requires { Ground net.old × (0 < n) × (n ≤ frames_of net.old) × (length net.old ≤ 67 + 2 * length weights.old) }
+// The variables of every quantifier, with a weight for each of N nodes.
+fn choose_in<const N: usize>(net: &mut [u64], n: usize)
+    requires { Ground net.old × (0 < n) × (n ≤ frames_of net.old) × (length net.old ≤ 67 + 2 * N) × (N ≤ 4000) }
     ensures { Linked net.old net.new }
 {
+    let mut weights = [0u64; N];
     let mut uses = [0u64; 64];
-    weigh(&net[..], n, weights, &mut uses);
-    let mut k: usize = 0;
-    while k < n {
+    weigh(&net[..], n, &mut weights, &mut uses);
+    for k in 0..n {
         choose_at(net, k, weights[k], &uses);
-        k += 1;
     }
-}
-
-fn choose_narrow(net: &mut [u64], n: usize)
-    requires { Ground net.old × (0 < n) × (n ≤ frames_of net.old) × (length net.old ≤ 473) }
-    ensures { Linked net.old net.new }
-{
-    let mut weights = [0u64; 203];
-    choose_in(net, n, &mut weights)
-}
-
-fn choose_wide(net: &mut [u64], n: usize)
-    requires { Ground net.old × (0 < n) × (n ≤ frames_of net.old) }
-    ensures { Linked net.old net.new }
-{
-    let mut weights = [0u64; 4000];
-    choose_in(net, n, &mut weights)
 }
 
 // Whether one of the first n nodes is a quantifier.
 fn any_bound(net: &[u64], n: usize) -> bool
     requires { Ground net.now × (n ≤ frames_of net.now) }
 {
-    let mut k: usize = 0;
-    while k < n {
-        if node_at(net, k).op > 5 {
-            return true;
-        }
-        k += 1;
-    }
-    false
+    (0..n).any(|k| node_at(net, k).op.is_quantifier())
 }
 
 // The phase of every bound variable.
@@ -187,17 +146,13 @@ pub fn choose_phases(net: &mut [u64])
     ensures { Linked net.old net.new }
 {
     let n = frames(&net[..]);
-    if !any_bound(&net[..], n) {
+    if n == 0 || !any_bound(&net[..], n) {
         return;
     }
-    if n == 0 {
-        return;
+    match net::form(&net[..]) {
+        Form::Narrow => choose_in::<203>(net, n),
+        Form::Wide => choose_in::<4000>(net, n),
     }
-    if net.len() <= 473 {
-        choose_narrow(net, n);
-        return;
-    }
-    choose_wide(net, n);
 }
 
 // Whether 1 is tried first. A free variable has 0 first, so that the first word found is the smallest.
@@ -205,8 +160,8 @@ pub fn one_first(net: &[u64], x: u8) -> bool
     requires { (x < 64) × (67 < length net.now) }
     ensures { result ≡ true → bit (free_of net.now) x ≡ false }
 {
-    if w64::has(free(net), x) {
+    if free(net).has(x) {
         return false;
     }
-    (net[READERS + x as usize] / PHASE) % 2 == 1
+    (net[READERS + usize::from(x)] / PHASE) % 2 == 1
 }

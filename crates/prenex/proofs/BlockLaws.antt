@@ -1,14 +1,16 @@
 -- The frames of the prefix, step by step: runs of variables, the quantifiers over them, blocks. Assumes nothing.
-use Rattle.std.specs.Prelude.{ℕ, suc, ◌+◌, ◌-◌, ◌*◌, ◌≤◌, ◌<◌, Bool, true, false, not, cond, List, [], ◌∷◌, ◌++◌, ◌≡◌, length, get_or, drop}
+use Rattle.std.specs.Prelude.{ℕ, suc, ◌+◌, ◌-◌, ◌*◌, ◌≤◌, ◌<◌, Bool, true, false, not, List, [], ◌∷◌, ◌++◌, ◌≡◌, length, get_or, drop, reverse}
 use Rattle.std.proofs.Common.{add-zero, add-suc, suc-add, add-one, sym, ap, ◌∙◌, length-append, drop-cons, ne_eqb}
 use native.Mathlib.Omega.{arith}
 use Rattle.std.proofs.Math.Path.{refl}
+use Rattle.std.proofs.lemmas.List.{get_or-reverse, get_or_default}
 use Rattle.std.proofs.lemmas.List.Edits.{sets}
-use Rattle.std.proofs.Math.Seq.{drop-length, length-sets}
+use Rattle.std.proofs.Math.Seq.{drop-length}
 use Rattle.words.specs.Word.{bit}
 use Rattle.sheet.specs.declared.Kind.{Kind}
 use Rattle.prenex.specs.Kinds.{variables, Run, ended, runs_from, runs, quantifier, run_kinds, frame_bytes, sheet_bytes}
 use Rattle.prenex.specs.Code.{even, word_kinds}
+use Rattle.prenex.specs.Writing.{FitBytes}
 use Rattle.prenex.proofs.PrefixLaws.{run-kinds-length}
 use Rattle.prenex.proofs.StoreLaws.{sheet-none, sheet-one, store_append}
 
@@ -29,10 +31,9 @@ store_runs d rs qs out n =
     ∙ store_append (run_kinds d rs n) (run_kinds d qs (n + length rs)) out n
     ∙ ap (λ (k : ℕ). sets (sets out (n * 4) (sheet_bytes (run_kinds d rs n))) ((n + k) * 4) (sheet_bytes (run_kinds d qs (n + length rs)))) (run-kinds-length d rs n)
 
-quantifier-bytes : (d : Bool) (a b c : ℕ) → frame_bytes (quantifier d a b c) ≡ cond d 5 6 ∷ a ∷ b ∷ c ∷ []
-unfolding frame_bytes
-quantifier-bytes true a b c = refl
-quantifier-bytes false a b c = refl
+pub quantifier_fits : (d : Bool) (a b c : ℕ) → a < 256 → b < 256 → c < 256 → FitBytes (quantifier d a b c)
+quantifier_fits true a b c h k l = (h, k, l)
+quantifier_fits false a b c h k l = (h, k, l)
 
 -- ---- a run's end
 
@@ -41,10 +42,10 @@ module _ (d : Bool) (x c n : ℕ) (out : List ℕ) where
   unfolding run_kinds
   run_none z = rw z (omega arith, omega arith, rw sheet-none)
 
-  pub run-one : (code : ℕ) (out' : List ℕ) → (c ≡ 0 → ⊥) → code ≡ cond d 5 6 → out' ≡ sets out (n * 4) (code ∷ (n - 1) ∷ (x - c) ∷ c ∷ [])
+  pub run-one : (out' : List ℕ) → (c ≡ 0 → ⊥) → out' ≡ sets out (n * 4) (frame_bytes (quantifier d (n - 1) (x - c) c))
       → (n + 1 ≡ n + length (ended x c)) × (n + 1 ≤ n + 1) × (out' ≡ sets out (n * 4) (sheet_bytes (run_kinds d (ended x c) n)))
   unfolding run_kinds
-  run-one code out' z e o = rw (ne_eqb c 0 z) (refl, omega arith, o ∙ rw (sheet-one, quantifier-bytes, e))
+  run-one out' z o = rw (ne_eqb c 0 z) (refl, omega arith, o ∙ rw sheet-one)
 
 -- ---- the runs of a block
 
@@ -67,13 +68,12 @@ module _ (d : Bool) (p : ℕ → Bool) (start : ℕ) (all : List ℕ) where
     pub before : c ≤ x
     pub least : start ≤ n
     pub few : n ≤ start + x
-    pub same : length out ≡ length all
     pub counted : start + length (runs p) ≡ n + length (runs_from p x c (variables - x))
     pub stored : sets all (start * 4) (sheet_bytes (run_kinds d (runs p) start)) ≡ sets out (n * 4) (sheet_bytes (run_kinds d (runs_from p x c (variables - x)) n))
 
   pub runs-start : Runs 0 0 start all
   unfolding runs
-  runs-start = record { before = omega arith; least = omega arith; few = omega arith; same = refl; counted = refl; stored = refl }
+  runs-start = record { before = omega arith; least = omega arith; few = omega arith; counted = refl; stored = refl }
 
   module _ (x c n : ℕ) (out : List ℕ) (s : Runs x c n out) where
     pub runs-end : variables ≤ x → (n' : ℕ) (out' : List ℕ) → n' ≡ n + length (ended x c) → out' ≡ sets out (n * 4) (sheet_bytes (run_kinds d (ended x c) n))
@@ -91,7 +91,6 @@ module _ (d : Bool) (p : ℕ → Bool) (start : ℕ) (all : List ℕ) where
         before = omega (arith, s.before);
         least = omega (arith, s.least);
         few = omega (arith, s.few);
-        same = ap length o ∙ s.same;
         counted = rw (e, g) (rw (rest, from_has p x c (variables - (x + 1)) t) at s.counted);
         stored = rw (e, g, o) (rw (rest, from_has p x c (variables - (x + 1)) t) at s.stored);
       }
@@ -106,7 +105,6 @@ module _ (d : Bool) (p : ℕ → Bool) (start : ℕ) (all : List ℕ) where
             before = omega arith;
             least = omega (arith, s.least);
             few = omega (arith, s.few);
-            same = ap length o ∙ length-sets out (n * 4) (sheet_bytes (run_kinds d (ended x c) n)) ∙ s.same;
             counted = rw g (omega (arith, k, length-append (ended x c) q));
             stored = rw (g, e, o) (l ∙ store_runs d (ended x c) q out n);
           }
@@ -124,6 +122,12 @@ kinds-more m ms n = refl
 even-more : (n : ℕ) → even (suc n) ≡ not (even n)
 unfolding even
 even-more n = refl
+
+-- the k-th word from behind, where left words are before it
+pub word_behind : (words : List ℕ) (k word left : ℕ) → word ≡ get_or (reverse words) k word → left + k + 1 ≡ length words → word ≡ get_or words left 0
+word_behind words k word left e h =
+    let i : length words - 1 - k ≡ left = omega arith in
+    e ∙ get_or-reverse words k word (omega arith) ∙ rw i (get_or_default words left word 0 (omega arith))
 
 -- the blocks from `left` on stand, and the next one is an exists or not
 module _ (words : List ℕ) (start : ℕ) (all : List ℕ) where
@@ -145,9 +149,6 @@ module _ (words : List ℕ) (start : ℕ) (all : List ℕ) where
     counted = rw (drop-length, kinds-none) (sym (add-zero start));
     stored = rw (drop-length, kinds-none, sheet-none);
   }
-
-  pub blocks-length : {next : Bool} {left n : ℕ} {out : List ℕ} → Blocks next left n out → length out ≡ length all
-  blocks-length {left = left} s = ap length s.stored ∙ length-sets all (start * 4) (sheet_bytes (word_kinds (drop left words) start))
 
   module _ (next : Bool) (left n : ℕ) (out : List ℕ) (s : Blocks next left n out) where
     pub blocks_end : left ≡ 0 → (n ≡ start + length (word_kinds words start)) × (out ≡ sets all (start * 4) (sheet_bytes (word_kinds words start)))

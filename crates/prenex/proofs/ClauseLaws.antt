@@ -1,12 +1,11 @@
 -- Clauses, step by step: codes, chains, the frames that are left to write and the frames that clauses end with. Assumes nothing.
 use Rattle.std.specs.Prelude.{ℕ, zero, suc, ◌+◌, ◌-◌, ◌*◌, ◌≤◌, ◌<◌, Bool, true, false, List, [], ◌∷◌, map, ◌≡◌, eqb, length, get_or, drop, set}
-use Rattle.std.proofs.Common.{add-zero, arith, sym, ap, ◌∙◌, length-drop, length-set, drop_of_length-le, drop-cons}
+use Rattle.std.proofs.Common.{add-zero, arith, sym, ap, ◌∙◌, length-drop, drop_of_length-le, drop-cons}
 use Rattle.std.proofs.Math.Nat.{add-suc, suc-add}
 use Rattle.std.proofs.Math.Numerals.{add-one}
 use Rattle.std.proofs.Math.Path.{refl}
 use Rattle.std.proofs.lemmas.List.{length-map}
 use Rattle.std.proofs.lemmas.List.Edits.{sets}
-use Rattle.std.proofs.Math.Seq.{length-sets}
 use borrow.Author.Tests.{ne_eqb}
 use Rattle.words.proofs.Logic.{by_bool, clash}
 use Rattle.sheet.specs.declared.Kind.{Kind}
@@ -153,24 +152,7 @@ module _ (f : Literal → ℕ) where
 
 -- ---- the loop over the codes of clauses
 
-or_bytes : (out : List ℕ) (at a b : ℕ) → sets out at (4 ∷ a ∷ b ∷ 0 ∷ []) ≡ sets out at (frame_bytes (Or a b))
-unfolding frame_bytes
-or_bytes out at a b = refl
-
 module _ {l : List ℕ} {f : Literal → ℕ} {n₀ : ℕ} {out₀ ends₀ : List ℕ} where
-  pub going_start : Going l f n₀ out₀ ends₀ out₀ ends₀ n₀ 0 0 true 0
-  going_start = record {
-    within = omega arith;
-    more = λ e. clash true refl e;
-    frames-few = omega arith;
-    ends-few = omega arith;
-    near = omega arith;
-    wide = refl;
-    same = refl;
-    kinds = record { frames_are = refl; bytes_are = refl };
-    numbers = record { count-is = omega arith; numbers_are = refl };
-  }
-
   module _ {out ends : List ℕ} {n k a : ℕ} {first : Bool} {i : ℕ} (g : Going l f n₀ out₀ ends₀ out ends n k a first i) where
     -- a clause without a literal ends
     pub going_none : i < length l → get_or l i 0 ≡ 0 → first ≡ true → Going l f n₀ out₀ ends₀ out ends n k a true (i + 1)
@@ -180,8 +162,6 @@ module _ {l : List ℕ} {f : Literal → ℕ} {n₀ : ℕ} {out₀ ends₀ : Lis
       frames-few = omega (arith, g.frames-few);
       ends-few = omega (arith, g.ends-few);
       near = g.near;
-      wide = g.wide;
-      same = g.same;
       kinds = left-same (rw e (ap (λ (cs : List Clause). clause_kinds f cs n) (at-end l i h z) ∙ none-kinds f _ n)) g.kinds;
       numbers = unstored_same (rw e (ap (λ (cs : List Clause). clause_ends f cs n) (at-end l i h z) ∙ none-ends f _ n)) g.numbers;
     }
@@ -194,8 +174,6 @@ module _ {l : List ℕ} {f : Literal → ℕ} {n₀ : ℕ} {out₀ ends₀ : Lis
       frames-few = omega (arith, g.frames-few);
       ends-few = omega (arith, g.ends-few);
       near = g.near;
-      wide = g.wide;
-      same = ap length s ∙ length-set ends k a ∙ g.same;
       kinds = left-same (rw e (ap (λ (cs : List Clause). kinds_within f a cs n) (at-end l i h z) ∙ end-kinds f a _ n)) g.kinds;
       numbers = unstored_next (unstored_same (rw e (ap (λ (cs : List Clause). ends_within f a cs n) (at-end l i h z) ∙ end-ends f a _ n)) g.numbers) s;
     }
@@ -215,23 +193,19 @@ module _ {l : List ℕ} {f : Literal → ℕ} {n₀ : ℕ} {out₀ ends₀ : Lis
           frames-few = omega (arith, g.frames-few);
           ends-few = omega (arith, g.ends-few);
           near = omega arith;
-          wide = g.wide;
-          same = g.same;
           kinds = left-same (rw e (ap (λ (cs : List Clause). clause_kinds f cs n) (at_literal_lem l i (omega arith) z) ∙ first-kinds f _ s n ∙ rw m)) g.kinds;
           numbers = unstored_same (rw e (ap (λ (cs : List Clause). clause_ends f cs n) (at_literal_lem l i (omega arith) z) ∙ first_ends f _ s n ∙ rw m)) g.numbers;
         }))
         (λ e.
         let at : r.at ≡ n = w.at-is ∙ rw e in
         let frames : r.frames ≡ n + 1 = w.frames-is ∙ rw e in
-        let bytes : out' ≡ sets out (n * 4) (frame_bytes (Or a member)) = w.bytes ∙ rw e (or_bytes out (n * 4) a member) in
+        let bytes : out' ≡ sets out (n * 4) (frame_bytes (Or a member)) = w.bytes ∙ rw e in
         rw (at, frames) (record {
           within = omega arith;
           more = λ _. h;
           frames-few = omega (arith, g.frames-few);
           ends-few = omega (arith, g.ends-few);
           near = omega arith;
-          wide = ap length bytes ∙ length-sets out (n * 4) (frame_bytes (Or a member)) ∙ g.wide;
-          same = g.same;
           kinds = left-next (left-same (rw e (ap (λ (cs : List Clause). kinds_within f a cs n) (at_literal_lem l i (omega arith) z) ∙ next-kinds f _ a s n ∙ rw m)) g.kinds) bytes;
           numbers = unstored_same (rw e (ap (λ (cs : List Clause). ends_within f a cs n) (at_literal_lem l i (omega arith) z) ∙ next-ends f _ a s n)) g.numbers;
         }))
@@ -291,10 +265,6 @@ going_done {l} {f} {n₀} {out₀} {ends₀} {out} {ends} {n} {k} {a} {first} {i
 
 -- ---- the loop over the frames that clauses end with
 
-and_bytes : (out : List ℕ) (at a b : ℕ) → sets out at (3 ∷ a ∷ b ∷ 0 ∷ []) ≡ sets out at (frame_bytes (And a b))
-unfolding frame_bytes
-and_bytes out at a b = refl
-
 module _ (l : List ℕ) (i n : ℕ) where
   first_conjunct : i < length l → conjunction_kinds (drop i l) n ≡ chain And (get_or l i 0) (drop (i + 1) l) n
   unfolding conjunction_kinds
@@ -309,17 +279,6 @@ module _ (l : List ℕ) (i n : ℕ) where
   none_left first a h = rw (drop_of_length-le l h) (by_bool first (λ e. rw e) (λ e. rw e))
 
 module _ {l : List ℕ} {n₀ : ℕ} {out₀ : List ℕ} where
-  pub joining_start : Members n₀ l → Joining l n₀ out₀ out₀ n₀ 0 true 0
-  joining_start m = record {
-    members = m;
-    within = omega arith;
-    frames-some = omega arith;
-    frames-few = omega arith;
-    near = omega arith;
-    wide = refl;
-    kinds = record { frames_are = refl; bytes_are = refl };
-  }
-
   module _ {out : List ℕ} {n a : ℕ} {first : Bool} {i : ℕ} (g : Joining l n₀ out₀ out n a first i) where
     pub joining_first : {member : ℕ} → i < length l → first ≡ true → member ≡ get_or l i 0 → Joining l n₀ out₀ out n member false (i + 1)
     joining_first h e m = record {
@@ -328,22 +287,19 @@ module _ {l : List ℕ} {n₀ : ℕ} {out₀ : List ℕ} where
       frames-some = g.frames-some;
       frames-few = omega (arith, g.frames-few);
       near = omega (arith, g.members.bound i, g.frames-some);
-      wide = g.wide;
       kinds = left-same (rw (e, m) (first_conjunct l i n h)) g.kinds;
     }
 
-    pub joining_next : {member : ℕ} {out' : List ℕ} → i < length l → first ≡ false → member ≡ get_or l i 0 → out' ≡ sets out (n * 4) (3 ∷ a ∷ member ∷ 0 ∷ [])
+    pub joining_next : {member : ℕ} {out' : List ℕ} → i < length l → first ≡ false → member ≡ get_or l i 0 → out' ≡ sets out (n * 4) (frame_bytes (And a member))
         → Joining l n₀ out₀ out' (n + 1) n false (i + 1)
-    joining_next {member} {out'} h e m b =
-        let bytes : out' ≡ sets out (n * 4) (frame_bytes (And a member)) = b ∙ and_bytes out (n * 4) a member in record {
-          members = g.members;
-          within = omega arith;
-          frames-some = omega (arith, g.frames-some);
-          frames-few = omega (arith, g.frames-few);
-          near = omega arith;
-          wide = ap length bytes ∙ length-sets out (n * 4) (frame_bytes (And a member)) ∙ g.wide;
-          kinds = left-next (left-same (rw (e, m) (next_conjunct l i n a h)) g.kinds) bytes;
-        }
+    joining_next h e m b = record {
+      members = g.members;
+      within = omega arith;
+      frames-some = omega (arith, g.frames-some);
+      frames-few = omega (arith, g.frames-few);
+      near = omega arith;
+      kinds = left-next (left-same (rw (e, m) (next_conjunct l i n a h)) g.kinds) b;
+    }
 
     pub joining_done : length l ≤ i
         → (n ≡ n₀ + length (conjunction_kinds l n₀)) × (n ≤ n₀ + length l) × (out ≡ sets out₀ (n₀ * 4) (sheet_bytes (conjunction_kinds l n₀)))

@@ -7,9 +7,8 @@ use Rattle.std.specs.Int.Bits.{bit_or}
 use Rattle.std.proofs.Math.Dec.{eqb}
 use Rattle.std.proofs.Math.ListN.{drop, drop_of_length-le}
 use Rattle.std.proofs.lemmas.List.Edits.{sets}
-use Rattle.std.proofs.Math.Seq.{length-sets}
 use Rattle.words.specs.Word.{bit}
-use Rattle.words.proofs.Word.{bit-or, bit-pow, bit-none}
+use Rattle.words.proofs.Bits.{bit-or, bit-pow, bit-none}
 use Rattle.sheet.specs.declared.Kind.{Kind}
 use Rattle.prenex.specs.declared.literal.Occurring.{Occurring}
 use Rattle.prenex.specs.Question.{Literal, Clause, some_literal, some_clause, occurs, negated}
@@ -137,12 +136,8 @@ having_lacks p x n e = rw (e, add-one x)
 module _ (p : ℕ → Bool) (f : ℕ → Kind) (start : ℕ) (all : List ℕ) where
   pub record Stored (x n : ℕ) (out : List ℕ) : Type 0 where
     pub few : n ≤ start + x
-    pub same : length out ≡ length all
     pub counted : start + count p 0 variables ≡ n + count p x (variables - x)
     pub stored : sets all (start * 4) (sheet_bytes (map f (having p 0 variables))) ≡ sets out (n * 4) (sheet_bytes (map f (having p x (variables - x))))
-
-  pub stored-start : Stored 0 start all
-  stored-start = record { few = omega arith; same = refl; counted = refl; stored = refl }
 
   module _ (x n : ℕ) (out : List ℕ) (s : Stored x n out) where
     pub stored-end : variables ≤ x → (n ≡ start + count p 0 variables) × (out ≡ sets all (start * 4) (sheet_bytes (map f (having p 0 variables))))
@@ -161,7 +156,6 @@ module _ (p : ℕ → Bool) (f : ℕ → Kind) (start : ℕ) (all : List ℕ) wh
           let g = rw (rest, having_has p x (variables - (x + 1)) t) at s.stored in
           record {
             few = omega (arith, s.few);
-            same = ap length o ∙ length-sets out (n * 4) (frame_bytes (f x)) ∙ s.same;
             counted = omega (arith, k);
             stored = g ∙ store_frame (f x) (map f (having p (x + 1) (variables - (x + 1)))) out n ∙ rw (e, o);
           }
@@ -169,7 +163,6 @@ module _ (p : ℕ → Bool) (f : ℕ → Kind) (start : ℕ) (all : List ℕ) wh
       pub stored_lacks : p x ≡ false → n' ≡ n → out' ≡ out → Stored (x + 1) n' out'
       stored_lacks t e o = record {
         few = omega (arith, s.few);
-        same = ap length o ∙ s.same;
         counted = rw e (rw (rest, count_lacks p x (variables - (x + 1)) t) at s.counted);
         stored = rw (e, o) (rw (rest, having_lacks p x (variables - (x + 1)) t) at s.stored);
       }

@@ -5,7 +5,7 @@ use Rattle.std.proofs.Math.Bool.{or-false, or_assoc}
 use Rattle.std.specs.Int.Bits.{bit_and, bit_or}
 use Rattle.words.proofs.Logic.{by_bool, clash, and_both, and_intro, or_cases, or_left, or_right}
 use Rattle.words.specs.Word.{bit}
-use Rattle.words.proofs.Word.{bit-and, bit-none}
+use Rattle.words.proofs.Bits.{bit-and, bit-none}
 use Rattle.words.proofs.Mask.{apart-bits}
 use Rattle.prenex.specs.Question.{Literal, Clause, some_literal}
 use Rattle.prenex.specs.Code.{literal_of, to_first, clauses_of, opposed, all_opposed}

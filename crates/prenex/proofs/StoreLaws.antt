@@ -5,7 +5,6 @@ use Rattle.std.proofs.lemmas.List.Edits.{sets}
 use Rattle.std.proofs.Math.Seq.{set_out}
 use Rattle.words.proofs.Stores.{sets_append}
 use Rattle.sheet.specs.declared.Kind.{Kind}
-use Rattle.sheet.specs.declared.Kind.TheVariants.{Input, Not}
 use Rattle.prenex.specs.Kinds.{frame_bytes, sheet_bytes}
 use Rattle.prenex.proofs.SheetLaws.{sheet-length, sheet_append}
 
@@ -15,14 +14,6 @@ sets_out [] l i h = refl
 sets_out (a ∷ vs) l i h = ap (λ (r : List ℕ). sets r (suc i) vs) (set_out l i a h) ∙ sets_out vs l (suc i) (omega arith)
 
 -- ---- the bytes of frames
-
-pub input-bytes : (x : ℕ) → frame_bytes (Input x) ≡ 1 ∷ x ∷ 0 ∷ 0 ∷ []
-unfolding frame_bytes
-input-bytes x = refl
-
-pub not-bytes : (a : ℕ) → frame_bytes (Not a) ≡ 2 ∷ a ∷ 0 ∷ 0 ∷ []
-unfolding frame_bytes
-not-bytes a = refl
 
 pub sheet-none : sheet_bytes [] ≡ []
 unfolding sheet_bytes

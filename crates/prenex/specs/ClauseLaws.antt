@@ -47,8 +47,6 @@ pub record Going (l : List ℕ) (f : Literal → ℕ) (n₀ : ℕ) (out₀ ends�
   pub frames-few : n ≤ n₀ + i
   pub ends-few : k ≤ i
   pub near : a ≤ 64 + (n - 64)
-  pub wide : length out ≡ length out₀
-  pub same : length ends ≡ length ends₀
   pub kinds : Left (clause_kinds f (clauses_of l) n₀) n₀ out₀ (kinds_left f first a (clauses_of (drop i l)) n) n out
   pub numbers : Unstored (clause_ends f (clauses_of l) n₀) ends₀ (ends_left f first a (clauses_of (drop i l)) n) k ends
 
@@ -65,5 +63,4 @@ pub record Joining (l : List ℕ) (n₀ : ℕ) (out₀ out : List ℕ) (n a : �
   pub frames-some : n₀ ≤ n
   pub frames-few : n ≤ n₀ + i
   pub near : a ≤ 64 + (n - 64)
-  pub wide : length out ≡ length out₀
   pub kinds : Left (conjunction_kinds l n₀) n₀ out₀ (conjunction_left first a (drop i l) n) n out

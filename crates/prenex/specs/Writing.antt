@@ -1,13 +1,26 @@
 -- What the steps of writing a question's frames leave. Assumes nothing.
-use Rattle.std.specs.Prelude.{ℕ, ◌+◌, ◌-◌, ◌*◌, ◌≤◌, Bool, cond, ◌&&◌, ◌||◌, List, [], ◌∷◌, ◌≡◌, eqb, length, get_or}
+use Rattle.std.specs.Prelude.{ℕ, ◌+◌, ◌-◌, ◌*◌, ◌≤◌, ◌<◌, Bool, cond, ◌&&◌, ◌||◌, List, ◌≡◌, eqb, length, get_or}
 use Rattle.std.proofs.lemmas.List.Edits.{sets}
 use Rattle.words.specs.Word.{bit}
+use Rattle.sheet.specs.declared.Kind.{Kind}
+use Rattle.sheet.specs.declared.Kind.TheVariants.{Never, Input, Not, And, Or, Exists, Forall, Gauge}
 use Rattle.prenex.specs.Question.{Literal}
-use Rattle.prenex.specs.Kinds.{clause_kinds, clause_ends, sheet_bytes}
+use Rattle.prenex.specs.Kinds.{clause_kinds, clause_ends, frame_bytes, sheet_bytes}
 use Rattle.prenex.specs.Code.{literal_of, clauses_of}
 use Rattle.prenex.specs.declared.literal.Occurring.{Occurring}
 use Rattle.prenex.specs.declared.clause.Chained.{Chained}
 use Rattle.prenex.specs.declared.clause.Link.{Link}
+
+-- the fields of a frame fit a byte each
+abbrev pub FitBytes : Kind → Type 0
+FitBytes Never = Unit {0}
+FitBytes (Input x) = x < 256
+FitBytes (Not a) = a < 256
+FitBytes (And a b) = (a < 256) × (b < 256)
+FitBytes (Or a b) = (a < 256) × (b < 256)
+FitBytes (Exists a b c) = (a < 256) × (b < 256) × (c < 256)
+FitBytes (Forall a b c) = (a < 256) × (b < 256) × (c < 256)
+FitBytes (Gauge x) = x < 256
 
 -- the words with the literal of a code added
 pub record With (found : Occurring) (code : ℕ) (r : Occurring) : Type 0 where
@@ -18,7 +31,7 @@ pub record With (found : Occurring) (code : ℕ) (r : Occurring) : Type 0 where
 pub record Linked (first : Bool) (at member n : ℕ) (out : List ℕ) (r : Link) (out' : List ℕ) : Type 0 where
   pub at-is : r.at ≡ cond first member n
   pub frames-is : r.frames ≡ cond first n (n + 1)
-  pub bytes : out' ≡ cond first out (sets out (n * 4) (4 ∷ at ∷ member ∷ 0 ∷ []))
+  pub bytes : out' ≡ cond first out (sets out (n * 4) (frame_bytes (Or at member)))
 
 -- numbers of frames that are literals' or before n
 pub record Members (n : ℕ) (l : List ℕ) : Type 0 where

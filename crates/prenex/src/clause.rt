@@ -1,31 +1,34 @@
 // The frames of clauses: chains of ORs, and the chain of ANDs over their ends.
-ghost use Rattle.std.specs.Prelude.{◌≡◌, ◌+◌, ◌-◌, ◌*◌, ◌≤◌, ◌<◌, length, take, set};
+ghost use Rattle.std.specs.Prelude.{◌≡◌, ◌+◌, ◌-◌, ◌*◌, ◌≤◌, length};
 ghost use Rattle.std.proofs.lemmas.List.Edits.{sets};
 ghost use Rattle.words.specs.Word.{bit};
 ghost use Rattle.prenex.specs.Kinds.{conjunction_kinds, frame_by, sheet_bytes};
 ghost use Rattle.prenex.specs.Code.{Codes, clauses_of, all_opposed};
 ghost use Rattle.prenex.specs.Writing.{Linked, Members, Clauses};
 
+use crate::frame::SHEET_BYTES;
+use crate::stores::store;
 use crate::{frame, literal};
-use words::w32;
+use sheet::Kind;
+use words::Word;
 
 // How many frames there are, and how many clauses ended.
 #[derive(Clone, Copy)]
 pub struct Chained {
-    pub frames: usize,
+    pub frames: u16,
     pub ends: usize,
 }
 
 // Where the chain of a clause has come to, and how many frames there are.
 #[derive(Clone, Copy)]
 struct Link {
-    at: usize,
-    frames: usize,
+    at: u16,
+    frames: u16,
 }
 
 // A literal more: the first of a clause starts its chain, each other one is joined to it.
-fn join_literal(first: bool, at: usize, member: usize, n: usize, out: &mut [u8]) -> Link
-    requires { (length out.old ≡ 800) × (member ≤ 64) × (at ≤ 64 + (n - 64)) × (n ≤ 500) }
+fn join_literal(first: bool, at: u16, member: u16, n: u16, out: &mut [u8; SHEET_BYTES]) -> Link
+    requires { (member ≤ 64) × (at ≤ 64 + (n - 64)) × (n ≤ 500) }
     ensures { Linked first at member n out.old result out.new }
 {
     if first {
@@ -34,19 +37,10 @@ fn join_literal(first: bool, at: usize, member: usize, n: usize, out: &mut [u8])
             frames: n,
         };
     }
-    frame::put(out, n, 4, at, member, 0);
+    frame::put(out, n, Kind::Or(at, member));
     Link {
         at: n,
         frames: n + 1,
-    }
-}
-
-// Stores a number at a place, if there is one.
-fn store(numbers: &mut [usize], at: usize, x: usize)
-    ensures { numbers.new ≡ set numbers.old at x }
-{
-    if at < numbers.len() {
-        numbers[at] = x;
     }
 }
 
@@ -55,20 +49,18 @@ pub fn write_clauses(
     codes: &[u8],
     all: u32,
     negated: u32,
-    literals: usize,
-    out: &mut [u8],
-    ends: &mut [usize],
+    literals: u16,
+    out: &mut [u8; SHEET_BYTES],
+    ends: &mut [u16],
 ) -> Chained
-    requires { Codes codes.now × (length codes.now ≤ 400) × (literals ≤ 64) × (length out.old ≡ 800) }
+    requires { Codes codes.now × (length codes.now ≤ 400) × (literals ≤ 64) }
     ensures { Clauses codes.now (frame_by (bit all) (bit negated)) literals out.old ends.old result out.new ends.new }
 {
     let mut n = literals;
     let mut k: usize = 0;
-    let mut at: usize = 0;
+    let mut at: u16 = 0;
     let mut first = true;
-    let mut i: usize = 0;
-    while i < codes.len() {
-        let code = codes[i];
+    for &code in codes {
         if code == 0 {
             if !first {
                 store(ends, k, at);
@@ -87,31 +79,27 @@ pub fn write_clauses(
             n = linked.frames;
             first = false;
         }
-        i += 1;
     }
     Chained { frames: n, ends: k }
 }
 
-// Writes the chain over the first `count` numbers from frame n on, and says how many frames there are then.
-pub fn write_conjunction(numbers: &[usize], count: usize, n: usize, out: &mut [u8]) -> usize
-    requires { (count ≤ length numbers.now) × (count ≤ 400) × (n ≤ 464) × (length out.old ≡ 800) × Members n (take count numbers.now) }
-    ensures { (result ≡ n + length (conjunction_kinds (take count numbers.now) n)) × (result ≤ n + count) × (out.new ≡ sets out.old (n * 4) (sheet_bytes (conjunction_kinds (take count numbers.now) n))) }
+// Writes the chain over frames from frame n on, and says how many frames there are then.
+pub fn write_conjunction(members: &[u16], n: u16, out: &mut [u8; SHEET_BYTES]) -> u16
+    requires { (length members.now ≤ 400) × (n ≤ 464) × Members n members.now }
+    ensures { (result ≡ n + length (conjunction_kinds members.now n)) × (result ≤ n + length members.now) × (out.new ≡ sets out.old (n * 4) (sheet_bytes (conjunction_kinds members.now n))) }
 {
     let mut to = n;
-    let mut at: usize = 0;
+    let mut at: u16 = 0;
     let mut first = true;
-    let mut i: usize = 0;
-    while i < count {
-        let member = numbers[i];
+    for &member in members {
         if first {
             at = member;
             first = false;
         } else {
-            frame::put(out, to, 3, at, member, 0);
+            frame::put(out, to, Kind::And(at, member));
             at = to;
             to += 1;
         }
-        i += 1;
     }
     to
 }
@@ -123,9 +111,7 @@ pub fn all_opposed(codes: &[u8]) -> bool
 {
     let mut positive: u32 = 0;
     let mut negative: u32 = 0;
-    let mut i: usize = 0;
-    while i < codes.len() {
-        let code = codes[i];
+    for &code in codes {
         if code == 0 {
             if positive & negative == 0 {
                 return false;
@@ -133,14 +119,13 @@ pub fn all_opposed(codes: &[u8]) -> bool
             positive = 0;
             negative = 0;
         } else {
-            let one = w32::one(literal::variable(code));
+            let one = u32::one(literal::variable(code));
             if literal::negative(code) {
-                negative = negative | one;
+                negative |= one;
             } else {
-                positive = positive | one;
+                positive |= one;
             }
         }
-        i += 1;
     }
     true
 }

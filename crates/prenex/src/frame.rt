@@ -1,28 +1,43 @@
 // A frame's four bytes, written where there is room.
-ghost use Rattle.std.specs.Prelude.{◌≡◌, [], ◌∷◌, ◌+◌, ◌*◌, ◌<◌, ◌≤◌, length};
+ghost use Rattle.std.specs.Prelude.{◌≡◌, ◌+◌, ◌*◌, ◌<◌, ◌≤◌, length};
 ghost use Rattle.std.proofs.lemmas.List.Edits.{sets};
+ghost use Rattle.prenex.specs.Kinds.{frame_bytes};
+ghost use Rattle.prenex.specs.Writing.{FitBytes};
 
-// The most frames of a sheet, and the bytes of one.
-pub const MOST: usize = 200;
+use sheet::Kind;
 
-pub const BYTES: usize = 4;
+// The most frames of a sheet, the bytes of one, and the room of all.
+pub const MOST: u16 = 200;
 
-fn put_bytes(out: &mut [u8], at: usize, code: u8, a: u8, b: u8, c: u8)
-    requires { at + 4 ≤ length out.old }
-    ensures { out.new ≡ sets out.old at (code ∷ a ∷ b ∷ c ∷ []) }
+const BYTES: usize = 4;
+
+pub const SHEET_BYTES: usize = 800;
+
+// The bytes of a frame.
+#[tactic(auto, unfolding(crate::specs::Kinds::frame_bytes))]
+fn bytes_of(kind: Kind) -> [u8; BYTES]
+    requires { FitBytes kind }
+    ensures { result ≡ frame_bytes kind }
 {
-    out[at] = code;
-    out[at + 1] = a;
-    out[at + 2] = b;
-    out[at + 3] = c;
+    match kind {
+        Kind::Never => [0, 0, 0, 0],
+        Kind::Input(x) => [1, x as u8, 0, 0],
+        Kind::Not(a) => [2, a as u8, 0, 0],
+        Kind::And(a, b) => [3, a as u8, b as u8, 0],
+        Kind::Or(a, b) => [4, a as u8, b as u8, 0],
+        Kind::Exists(a, b, c) => [5, a as u8, b as u8, c as u8],
+        Kind::Forall(a, b, c) => [6, a as u8, b as u8, c as u8],
+        Kind::Gauge(x) => [7, x as u8, 0, 0],
+    }
 }
 
 // Writes frame n; past the last that a sheet can have, nothing.
-pub fn put(out: &mut [u8], n: usize, code: u8, a: usize, b: usize, c: usize)
-    requires { (length out.old ≡ 800) × (n < 200 → (a < 256) × (b < 256) × (c < 256)) }
-    ensures { out.new ≡ sets out.old (n * 4) (code ∷ a ∷ b ∷ c ∷ []) }
+pub fn put(out: &mut [u8; SHEET_BYTES], n: u16, kind: Kind)
+    requires { n < 200 → FitBytes kind }
+    ensures { out.new ≡ sets out.old (n * 4) (frame_bytes kind) }
 {
     if n < MOST {
-        put_bytes(out, n * BYTES, code, a as u8, b as u8, c as u8);
+        let at = usize::from(n) * BYTES;
+        out[at..at + BYTES].copy_from_slice(&bytes_of(kind));
     }
 }

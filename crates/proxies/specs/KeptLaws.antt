@@ -4,7 +4,7 @@ use Rattle.std.proofs.Common.{arith, sym, ◌∙◌, ap, inl, inr, lt-ltb}
 use Rattle.std.proofs.Math.Bool.{and-true}
 use Rattle.std.proofs.lemmas.Nat.{and_mask}
 use Rattle.words.specs.Word.{bit}
-use Rattle.words.proofs.Word.{bit-and, bit-ones}
+use Rattle.words.proofs.Bits.{bit-and, bit-ones}
 use Rattle.words.proofs.Mask.{sub-bits}
 use Rattle.formula.specs.Formula.{Formula}
 use Rattle.formula.specs.Ask.{Bounded}

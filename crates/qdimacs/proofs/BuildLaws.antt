@@ -1,10 +1,9 @@
 -- The frames of a question, from its fields through the two arrays: the laws that `build` goes by. Assumes nothing.
-use Rattle.std.specs.Prelude.{ℕ, ◌+◌, ◌*◌, ◌≤◌, ◌<◌, true, false, ◌≡◌, length, take, drop}
-use Rattle.std.proofs.Common.{zero-add, arith, sym, subst, ◌∙◌, length-append, take_at}
+use Rattle.std.specs.Prelude.{ℕ, ◌+◌, ◌*◌, ◌≤◌, ◌<◌, ◌≡◌, length, take, drop}
+use Rattle.std.proofs.Common.{zero-add, arith, sym, ◌∙◌, length-append, take_at}
 use mathlib.Core.List.{List, ◌++◌, append_assoc}
 use Rattle.std.proofs.Math.Path.{ap}
-use Rattle.std.proofs.Math.Seq.{sets, length-sets}
-use Rattle.words.proofs.Logic.{clash}
+use Rattle.std.proofs.Math.Seq.{sets}
 use Rattle.words.proofs.Stores.{sets-start}
 use Rattle.sheet.specs.declared.Kind.{Kind}
 use Rattle.prenex.specs.Question.{Question, Proper, Contingent}
@@ -23,21 +22,10 @@ use Rattle.dimacs.specs.Page.{page}
 use Rattle.dimacs.specs.Row.{header, codes_from, words_from}
 use Rattle.dimacs.proofs.RowLaws.{codes_page, words_page}
 use Rattle.dimacs.specs.declared.token.Token.{Token}
-use Rattle.qdimacs.specs.Reading.{Arranged, Builds}
-use Rattle.qdimacs.specs.MatrixAsked.{Matrix, Judged}
-use Rattle.qdimacs.specs.declared.build.Built.{Built}
+use Rattle.qdimacs.specs.Reading.{Arranged, BuiltAll}
+use Rattle.qdimacs.specs.MatrixAsked.{Matrix}
 
 -- ---- too many frames
-
-pub builds_large : {q : Question} {frames frames' : List ℕ} {r : Built} → r.large ≡ true → 200 < length (kinds q) → Builds q frames r frames'
-builds_large {r = r} e h = record {
-  large = λ t. h;
-  small = λ t. clash r.large e t;
-  count = λ t. clash r.large e t;
-  bytes = λ t. clash r.large e t;
-  contingent = λ t. clash r.large e t;
-  settled = λ t. clash r.large e t;
-}
 
 module _ {q : Question} (p : Proper q) (few : q.variables ≤ 32) where
   -- the codes are at most twice as many as the literals
@@ -78,16 +66,12 @@ module _ {q : Question} (p : Proper q) (few : q.variables ≤ 32) {ts : List Tok
 
 -- ---- the frames of the arrays
 
--- the buffer keeps its length
-pub first-length : (codes f : List ℕ) {f1 : List ℕ} → length f ≡ 800 → f1 ≡ sets f 0 (sheet_bytes (matrix_kinds (clauses_of codes))) → length f1 ≡ 800
-first-length codes f room h = ap length h ∙ length-sets f 0 (sheet_bytes (matrix_kinds (clauses_of codes))) ∙ room
-
-pub both-length : (words : List ℕ) (n : ℕ) (f1 : List ℕ) {f2 : List ℕ} → length f1 ≡ 800 → f2 ≡ sets f1 (n * 4) (sheet_bytes (word_kinds words n)) → length f2 ≡ 800
-both-length words n f1 room k = ap length k ∙ length-sets f1 (n * 4) (sheet_bytes (word_kinds words n)) ∙ room
-
 module _ {q : Question} {codes words : List ℕ} (a : Arranged q codes words) where
   pub clauses_are : clauses_of codes ≡ q.clauses
   clauses_are = ap clauses_of a.codes_are ∙ clauses_codes q.clauses
+
+  pub contingent_here : Contingent q.clauses → Contingent (clauses_of codes)
+  contingent_here k = rw clauses_are k
 
   pub codes_fit : Codes codes
   codes_fit = rw a.codes_are (EncodedLaws.codes_are q.clauses (clauses-below a.few a.proper.clauses-below))
@@ -145,12 +129,5 @@ module _ {q : Question} {codes words : List ℕ} (a : Arranged q codes words) wh
         few = omega (arith, ap length kinds_are, length-append (matrix_kinds (clauses_of codes)) (word_kinds words n));
       }
 
-      pub builds_small : {r : Built} → r.large ≡ false → r.frames ≡ length (kinds q) → Judged (clauses_of codes) r.contingent → Builds q f r f2
-      builds_small {r} t u j = record {
-        large = λ l. clash r.large l t;
-        small = λ l. few;
-        count = λ l. u;
-        bytes = λ l. front-is;
-        contingent = λ l c. subst Contingent clauses_are (j.is_contingent c);
-        settled = λ l c d. j.is-settled c (subst Contingent (sym clauses_are) d);
-      }
+      pub built_all : {m size : ℕ} → m ≡ length (kinds q) → size ≡ m * 4 → Contingent (clauses_of codes) → BuiltAll q f size f2
+      built_all u v j = record { few = few; size = omega (arith, u, v, sheet-size); bytes = front-is; contingent = rw clauses_are at j }

@@ -3,7 +3,7 @@ use Rattle.std.specs.Prelude.{ℕ, Bool, true, false, List, ◌≡◌}
 use Rattle.std.proofs.Common.{sym, ap, subst, ◌∙◌}
 use Rattle.words.proofs.Logic.{clash}
 use Rattle.words.specs.Word.{bit}
-use Rattle.words.proofs.Word.{bit-none, ext}
+use Rattle.words.proofs.Bits.{bit-none, ext}
 use Rattle.words.proofs.Mask.{none-sub}
 use Rattle.formula.specs.Ask.{Verdict, free_mask, ask, Entries}
 use Rattle.formula.proofs.Ask.{bit-free, ask-some, ask-never}
@@ -11,7 +11,7 @@ use Rattle.formula.specs.Gauges.{verdict}
 use Rattle.formula.proofs.GaugeLaws.{verdict-none}
 use Rattle.sheet.specs.Fields.{Sheet, narrow, kind}
 use Rattle.sheet.specs.Rules.{binds, gauges}
-use Rattle.sheet.proofs.Accepted.{ordered-bounded}
+use Rattle.sheet.proofs.AcceptedLaws.{ordered-bounded}
 use Rattle.records.proofs.Both.{tables_none}
 use Rattle.net.specs.Layout.{free_of}
 use Rattle.net.specs.Sheet.{Checked, NetOf, checked_net}

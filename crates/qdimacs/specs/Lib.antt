@@ -1,4 +1,3 @@
 pub mod Reading
 pub mod MatrixAsked
-pub mod ReadLaws
 pub mod Certificate

@@ -1,6 +1,8 @@
 -- What reading a text gives. Assumes nothing.
-use Rattle.std.specs.Prelude.{ℕ, ◌≤◌, ◌<◌, true, false, List, ◌++◌, ◌⊎◌, ◌≡◌, length, drop}
+use Rattle.std.specs.Prelude.{ℕ, false, ◌≤◌, ◌<◌, List, ◌++◌, ◌⊎◌, ◌≡◌, length, drop, Result, Ok, Err}
 use Rattle.sheet.specs.Refusal as Number
+use Rattle.sheet.specs.declared.refusal.Fault.{Fault}
+use Rattle.sheet.specs.declared.refusal.Fault.TheVariants.{QuestionBroken, QuestionTooLarge}
 use Rattle.prenex.specs.Question.{Question, Proper, Contingent}
 use Rattle.prenex.specs.Kinds.{variables, most_frames, kinds, sheet_of}
 use Rattle.prenex.specs.Code.{codes_of}
@@ -8,7 +10,6 @@ use Rattle.prenex.specs.CodeLaws.{Words}
 use Rattle.dimacs.specs.Page.{page, Written, WellFormed}
 use Rattle.dimacs.specs.Token.{tokens, behind_comments}
 use Rattle.qdimacs.specs.declared.check.Header.{Header}
-use Rattle.qdimacs.specs.declared.build.Built.{Built}
 
 -- the least length of the sheet's buffer
 abbrev pub sheet_room : ℕ
@@ -31,10 +32,17 @@ pub data Read (text sheet : List ℕ) : ℕ → ℕ → List ℕ → Type 0 wher
   accepted : sheet_room ≤ length sheet → {q : Question} → Written q text → Small q → Contingent q.clauses
       → Read text sheet 0 (length (sheet_of q)) (sheet_of q ++ drop (length (sheet_of q)) sheet)
 
--- what the check of a text finds: where its fields begin, and the variables of the problem line; 0 variables if it is not well formed
-pub data Headed (text : List ℕ) (r : Header) : Type 0 where
-  ill : r.variables ≡ 0 → (WellFormed text → ⊥) → Headed text r
-  well : {q : Question} → Written q text → r.variables ≡ q.variables → drop r.at text ≡ behind_comments false text → r.at ≤ length text → Headed text r
+-- what the check of a text finds, if it is well formed: where its fields begin, and the variables of the problem line
+pub record HeaderOf (text : List ℕ) (r : Header) : Type 0 where
+  pub question : Question
+  pub written : Written question text
+  pub variables-is : r.variables ≡ question.variables
+  pub place : drop r.at text ≡ behind_comments false text
+  pub within : r.at ≤ length text
+
+abbrev pub Headed : List ℕ → Result Header Fault → Type 0
+Headed text (Ok r) = HeaderOf text r
+Headed text (Err f) = (f ≡ QuestionBroken) × (WellFormed text → ⊥)
 
 -- the text goes on from a place with a question of at most 32 variables
 pub record Asked (text : List ℕ) (at : ℕ) : Type 0 where
@@ -56,11 +64,15 @@ pub record Arrays (codes words : List ℕ) : Type 0 where
   pub codes_few : length codes ≤ 400
   pub words_few : length words ≤ 200
 
+-- all frames of a question, n bytes
+pub record BuiltAll (q : Question) (frames : List ℕ) (n : ℕ) (frames' : List ℕ) : Type 0 where
+  pub few : length (kinds q) ≤ most_frames
+  pub size : n ≡ length (sheet_of q)
+  pub bytes : frames' ≡ sheet_of q ++ drop (length (sheet_of q)) frames
+  pub contingent : Contingent q.clauses
+
 -- what building the frames of a question of at most 32 variables gives
-pub record Builds (q : Question) (frames : List ℕ) (r : Built) (frames' : List ℕ) : Type 0 where
-  pub large : r.large ≡ true → most_frames < length (kinds q)
-  pub small : r.large ≡ false → length (kinds q) ≤ most_frames
-  pub count : r.large ≡ false → r.frames ≡ length (kinds q)
-  pub bytes : r.large ≡ false → frames' ≡ sheet_of q ++ drop (length (sheet_of q)) frames
-  pub contingent : r.large ≡ false → r.contingent ≡ true → Contingent q.clauses
-  pub settled : r.large ≡ false → r.contingent ≡ false → Contingent q.clauses → ⊥
+abbrev pub Builds : Question → List ℕ → Result ℕ Fault → List ℕ → Type 0
+Builds q frames (Ok n) frames' = BuiltAll q frames n frames'
+Builds q frames (Err f) frames' =
+    (f ≡ QuestionTooLarge) × (most_frames < length (kinds q)) ⊎ (f ≡ QuestionBroken) × (length (kinds q) ≤ most_frames) × (Contingent q.clauses → ⊥)

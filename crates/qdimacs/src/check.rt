@@ -1,38 +1,27 @@
 // Whether a text is well formed.
-ghost use Rattle.std.specs.Prelude.{◌≡◌};
 ghost use Rattle.qdimacs.specs.Reading.{Headed};
 
 use dimacs::{atoms, comments, shape};
+use sheet::refusal::Fault;
 
-// Where the fields begin, and the variables of the problem line; 0 variables if the text is not well formed.
+// Where the fields begin, and the variables of the problem line.
 #[derive(Clone, Copy)]
 pub struct Header {
     pub at: usize,
     pub variables: u32,
 }
 
-fn broken() -> Header
-    ensures { result.variables ≡ 0 }
-{
-    Header {
-        at: 0,
-        variables: 0,
-    }
-}
-
-pub fn check(text: &[u8]) -> Header
+// The header of a text that is well formed.
+pub fn check(text: &[u8]) -> Result<Header, Fault>
     ensures { Headed text.now result }
 {
     let at = comments::behind_comments(text);
     let state = shape::run(text, at);
-    if !shape::whole(state) {
-        return broken();
+    if !shape::whole(state) || !atoms::proper_atoms(text, at) {
+        return Err(Fault::QuestionBroken);
     }
-    if !atoms::proper_atoms(text, at) {
-        return broken();
-    }
-    Header {
+    Ok(Header {
         at,
         variables: state.variables,
-    }
+    })
 }

@@ -1,5 +1,5 @@
 -- What the record finder hands back: which record of which table, the numbers of that part, and its place. Assumes nothing.
-use Rattle.std.specs.Prelude.{◌≡◌, Bool, List, ℕ, ◌<◌, ◌≤◌, length, ltb}
+use Rattle.std.specs.Prelude.{◌≡◌, Option, None, Some, Bool, List, ℕ, ◌<◌, ◌≤◌, length, ltb}
 use Rattle.std.proofs.Common.{◌∙◌, inl, inr, arith}
 use Rattle.std.specs.Borrow.{Bor}
 use borrow.Author.Tests.{lt-ltb, le-ltb}
@@ -10,7 +10,7 @@ use Rattle.formula.proofs.Least.{least-hit, least_miss, least-is, least-none}
 use Rattle.form.specs.Form.{room}
 use Rattle.form.specs.declared.Form.{Form}
 use Rattle.records.specs.declared.Hit.{Hit}
-use Rattle.records.specs.declared.Hit.TheVariants.{Under, Over, Neither}
+use Rattle.records.specs.declared.Hit.TheVariants.{Under, Over}
 use Rattle.records.specs.Search.{FirstBelow, NoneBelow}
 use Rattle.records.specs.Find.{Empty, Holding, Part, Says, agrees_at, first_at, hit, part_of, place_of}
 
@@ -35,24 +35,24 @@ none-least p count f = least-none p 0 count (λ k l h. f k (omega arith)) ∙ om
 -- ---- each case of the finder
 
 module _ (F : Form) (u : List ℕ) (m : ℕ) (o : List ℕ) (n frame setting : ℕ) where
-  pub hit_under_full : room F (length u) < m → hit F u m o n frame setting ≡ Neither
+  pub hit_under_full : room F (length u) < m → hit F u m o n frame setting ≡ None
   unfolding hit
   hit_under_full h = rw (lt-ltb (room F (length u)) m h)
 
-  pub hit-over-full : room F (length o) < n → hit F u m o n frame setting ≡ Neither
+  pub hit-over-full : room F (length o) < n → hit F u m o n frame setting ≡ None
   unfolding hit
   hit-over-full h = by_bool (ltb (room F (length u)) m) (λ e. rw e) (λ e. rw (e, lt-ltb (room F (length o)) n h))
 
   module _ (l : m ≤ room F (length u)) (k : n ≤ room F (length o)) where
-    pub hit_under : {j : ℕ} → first_at F u m frame setting ≡ j → j < m → hit F u m o n frame setting ≡ Under j
+    pub hit_under : {j : ℕ} → first_at F u m frame setting ≡ j → j < m → hit F u m o n frame setting ≡ Some (Under j)
     unfolding hit
     hit_under {j} e h = rw (le-ltb (room F (length u)) m l, le-ltb (room F (length o)) n k, e, lt-ltb j m h)
 
-    pub hit-over : {j : ℕ} → first_at F u m frame setting ≡ m → first_at F o n frame setting ≡ j → j < n → hit F u m o n frame setting ≡ Over j
+    pub hit-over : {j : ℕ} → first_at F u m frame setting ≡ m → first_at F o n frame setting ≡ j → j < n → hit F u m o n frame setting ≡ Some (Over j)
     unfolding hit
     hit-over {j} e d h = rw (le-ltb (room F (length u)) m l, le-ltb (room F (length o)) n k, e, le-ltb m m (omega arith), d, lt-ltb j n h)
 
-    pub hit_neither : first_at F u m frame setting ≡ m → first_at F o n frame setting ≡ n → hit F u m o n frame setting ≡ Neither
+    pub hit_neither : first_at F u m frame setting ≡ m → first_at F o n frame setting ≡ n → hit F u m o n frame setting ≡ None
     unfolding hit
     hit_neither e d = rw (le-ltb (room F (length u)) m l, le-ltb (room F (length o)) n k, e, le-ltb m m (omega arith), d, le-ltb n n (omega arith))
 
@@ -71,7 +71,7 @@ module _ (F : Form) (u : List ℕ) (m : ℕ) (o : List ℕ) (n frame setting : �
       (λ d. rw (a, b, c, d) (omega tests, omega tests, none, least_first (agrees_at F o frame setting) n (omega tests)))
       (λ d. rw (a, b, c, d) (inr (inr (none, least_nowhere (agrees_at F o frame setting) n (omega tests))))))))
 
-  pub says_of : {r h : Hit} → r ≡ hit F u m o n frame setting → r ≡ h → Says F u m o n frame setting h
+  pub says_of : {r h : Option Hit} → r ≡ hit F u m o n frame setting → r ≡ h → Says F u m o n frame setting h
   says_of d e = rw (← d, e) at hit_says
 
 -- ---- what is handed back, in words
@@ -91,7 +91,7 @@ module _ (F : Form) (u : Bor (List ℕ)) (m : ℕ) (o : Bor (List ℕ)) (n frame
       let e = hit-over F u.now m o.now n frame setting l k (none-least (agrees_at F u.now frame setting) m g) (first-least f) f.counted in
       record { numbers = rw e at part.numbers; place = rw e at part.place }
 
-  nothing : hit F u.now m o.now n frame setting ≡ Neither → Empty u r
+  nothing : hit F u.now m o.now n frame setting ≡ None → Empty u r
   unfolding part_of place_of
   nothing e = record { numbers = rw e at part.numbers; place = rw e at part.place }
 

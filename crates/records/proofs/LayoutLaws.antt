@@ -1,6 +1,7 @@
 -- The numbers of a record in either form, and how they are read back: all that is known of the layout of a table. Assumes nothing.
 use Rattle.std.specs.Prelude.{ℕ, suc, ◌+◌, ◌*◌, ◌<◌, ◌≡◌, refl, List, ◌∷◌, length, get_or, take, drop}
 use Rattle.std.proofs.Common.{arith, ap₂, drop-cons}
+use Rattle.std.proofs.lemmas.List.Edits.{sets}
 use Rattle.form.specs.Form.{room, record_numbers, record_start, word_end}
 use Rattle.form.specs.declared.Form.{Form}
 use Rattle.form.specs.declared.Form.TheVariants.{Narrow, Wide}

@@ -1,5 +1,5 @@
 -- What the finder's code does, by the finder's definitions: searches with every variable assigned, and the machine's parts. Assumes nothing.
-use Rattle.std.specs.Prelude.{◌≡◌, true, List, ℕ, ◌+◌, ◌-◌, ◌*◌, ◌^◌, ◌<◌, get_or}
+use Rattle.std.specs.Prelude.{◌≡◌, Some, true, List, ℕ, ◌+◌, ◌-◌, ◌*◌, ◌^◌, ◌<◌, get_or}
 use Rattle.std.proofs.Common.{◌∙◌, ap, mod-eq_of_lt, lt_of_lt_of_le, arith}
 use Rattle.std.proofs.lemmas.Nat.{and_mask}
 use Rattle.std.specs.Borrow.{Bor}
@@ -51,10 +51,10 @@ start-place p = ap (λ (z : ℕ). (p.0, z)) (omega arith)
 
 -- a part that holds a record is the one that a hit of that record names
 module _ {F : Form} {u o r : Bor (List ℕ)} {j : ℕ} where
-  pub part_under : Holding F u r j → Part F u o r (Under j)
+  pub part_under : Holding F u r j → Part F u o r (Some (Under j))
   unfolding part_of place_of
   part_under h = record { numbers = h.numbers; place = h.place }
 
-  pub part-over : Holding F o r j → Part F u o r (Over j)
+  pub part-over : Holding F o r j → Part F u o r (Some (Over j))
   unfolding part_of place_of
   part-over h = record { numbers = h.numbers; place = h.place }

@@ -1,7 +1,5 @@
 -- What a search of a table finds. Assumes nothing.
-use Rattle.std.specs.Prelude.{◌≡◌, Bool, true, false, List, ℕ, ◌<◌}
-use Rattle.records.specs.declared.Found.{Found}
-use Rattle.records.specs.declared.Found.TheVariants.{At, Nothing}
+use Rattle.std.specs.Prelude.{◌≡◌, Option, None, Some, Bool, true, false, List, ℕ, ◌<◌}
 use Rattle.form.specs.declared.Form.{Form}
 use Rattle.records.specs.Table.{matches}
 
@@ -16,6 +14,6 @@ pub record FirstBelow (p : ℕ → Bool) (count j : ℕ) : Type 0 where
   pub none_before : NoneBelow p j
 
 -- the first of the counted records that matches
-abbrev pub Finds : Form → List ℕ → ℕ → ℕ → ℕ → ℕ → Found → Type 0
-Finds F t count frame assigned setting (At j) = FirstBelow (matches F t frame assigned setting) count j
-Finds F t count frame assigned setting Nothing = NoneBelow (matches F t frame assigned setting) count
+abbrev pub Finds : Form → List ℕ → ℕ → ℕ → ℕ → ℕ → Option ℕ → Type 0
+Finds F t count frame assigned setting (Some j) = FirstBelow (matches F t frame assigned setting) count j
+Finds F t count frame assigned setting None = NoneBelow (matches F t frame assigned setting) count

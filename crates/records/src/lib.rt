@@ -14,10 +14,8 @@ ghost use Rattle.records.specs.Find.{hit, Part};
 
 use cube::Cube64;
 use form::Form;
-use layout::{part_at, record_at, write};
-
-// The mask of every variable: in a setting each has a value.
-const EVERY: u64 = 18446744073709551615;
+use layout::{Record, part_at, record_at, write};
+use words::Word;
 
 // How many records of the under table count, and how many of the over table.
 #[derive(Clone, Copy)]
@@ -26,44 +24,28 @@ pub struct Counts {
     pub over: usize,
 }
 
-// Where a search ended: at a record's index, or nowhere.
-#[derive(Clone, Copy)]
-pub enum Found {
-    At(usize),
-    Nothing,
-}
-
-// In which of two tables a record was found, and at which index.
+// In which of two tables a record stands, and at which index.
 #[derive(Clone, Copy)]
 pub enum Hit {
     Under(usize),
     Over(usize),
-    Neither,
 }
 
 // Whether a record's cube agrees with the setting. The maker would drop values outside the mask, with which nothing agrees.
 fn record_agrees(mask: u64, values: u64, setting: u64) -> bool
     ensures { result ≡ agree mask values setting }
 {
-    if words::w64::inside(values, mask) {
-        return Cube64::of(mask, values).agrees(setting);
-    }
-    false
+    values.inside(mask) && Cube64::of(mask, values).agrees(setting)
 }
 
 // Whether record j is one of this frame, assigns assigned variables only, and agrees with the setting.
+#[tactic(auto, unfolding(crate::specs::Table::matches))]
 fn matches_at(table: &[u32], form: Form, j: usize, frame: u32, assigned: u64, setting: u64) -> bool
     requires { j < Sizes.room form (length table.now) }
     ensures { result ≡ matches form table.now frame assigned setting j }
 {
     let r = record_at(table, form, j);
-    if r.frame != frame {
-        return false;
-    }
-    if words::w64::inside(r.mask, assigned) {
-        return record_agrees(r.mask, r.values, setting);
-    }
-    false
+    r.frame == frame && r.mask.inside(assigned) && record_agrees(r.mask, r.values, setting)
 }
 
 // The first of the counted records that matches (for the solver).
@@ -74,18 +56,16 @@ pub fn search(
     frame: u32,
     assigned: u64,
     setting: u64,
-) -> Found
+) -> Option<usize>
     requires { record_start form count ≤ length table.now }
     ensures { Finds form table.now count frame assigned setting result }
 {
-    let mut j: usize = 0;
-    while j < count {
+    for j in 0..count {
         if matches_at(table, form, j, frame, assigned, setting) {
-            return Found::At(j);
+            return Some(j);
         }
-        j += 1;
     }
-    Found::Nothing
+    None
 }
 
 // The mask of a record (for the solver).
@@ -93,8 +73,7 @@ pub fn mask_of(table: &[u32], form: Form, at: usize) -> u64
     requires { at < Sizes.room form (length table.now) }
     ensures { result ≡ mask_at form table.now at }
 {
-    let r = record_at(table, form, at);
-    r.mask
+    record_at(table, form, at).mask
 }
 
 // Puts a record behind the counted ones and tells how many there are then: a full table takes no more (for the solver).
@@ -103,13 +82,18 @@ pub fn put(table: &mut [u32], form: Form, count: usize, frame: u32, mask: u64, v
     ensures { Put form table.old count table.new result frame mask values }
 {
     if count < form::room(form, table.len()) {
-        write(table, form, count, frame, mask, values);
+        let record = Record {
+            frame,
+            mask,
+            values,
+        };
+        write(table, form, count, record);
         return count + 1;
     }
     count
 }
 
-// In which table a record of the frame agrees with the setting: the under table first. In neither, if a count exceeds its table's room.
+// Where a record of the frame agrees with the setting: the under table first. Nowhere, if a count exceeds its table's room.
 fn locate(
     form: Form,
     under: &[u32],
@@ -118,27 +102,25 @@ fn locate(
     over_count: usize,
     frame: u32,
     setting: u64,
-) -> Hit
+) -> Option<Hit>
     ensures { result ≡ hit form under.now under_count over.now over_count frame setting }
 {
     if under_count > form::room(form, under.len()) {
-        return Hit::Neither;
+        return None;
     }
     if over_count > form::room(form, over.len()) {
-        return Hit::Neither;
+        return None;
     }
-    match search(under, form, under_count, frame, EVERY, setting) {
-        Found::At(i) => Hit::Under(i),
-        Found::Nothing => match search(over, form, over_count, frame, EVERY, setting) {
-            Found::At(j) => Hit::Over(j),
-            Found::Nothing => Hit::Neither,
-        },
+    if let Some(j) = search(under, form, under_count, frame, u64::MAX, setting) {
+        return Some(Hit::Under(j));
     }
+    let j = search(over, form, over_count, frame, u64::MAX, setting)?;
+    Some(Hit::Over(j))
 }
 
-// The record finder: the numbers of the first record of the frame that agrees with the setting, a part of the under
-// table or else of the over table; the empty part at the under table's start, if there is none or a count exceeds its table's room.
-fn find_form<'a>(
+// The record finder: the numbers of the first record of the frame that agrees with the setting, three in tables of a narrow sheet and five in those of
+// a wide one, a part of the under table or else of the over table; the empty part at the under table's start, if there is none or a count exceeds its table's room.
+pub fn find<'a>(
     form: Form,
     under: &'a [u32],
     under_count: usize,
@@ -150,52 +132,8 @@ fn find_form<'a>(
     ensures { Part form under.entry over.entry result (hit form under.now under_count over.now over_count frame setting) }
 {
     match locate(form, under, under_count, over, over_count, frame, setting) {
-        Hit::Under(i) => part_at(under, form, i),
-        Hit::Over(i) => part_at(over, form, i),
-        Hit::Neither => &under[0..0],
+        Some(Hit::Under(j)) => part_at(under, form, j),
+        Some(Hit::Over(j)) => part_at(over, form, j),
+        None => &under[0..0],
     }
-}
-
-// The record finder in tables of a narrow sheet: a part of three numbers, or none.
-pub fn find<'a>(
-    under: &'a [u32],
-    under_count: usize,
-    over: &'a [u32],
-    over_count: usize,
-    frame: u32,
-    setting: u32,
-) -> &'a [u32]
-    ensures { Part Form.Narrow under.entry over.entry result (hit Form.Narrow under.now under_count over.now over_count frame setting) }
-{
-    find_form(
-        Form::Narrow,
-        under,
-        under_count,
-        over,
-        over_count,
-        frame,
-        setting as u64,
-    )
-}
-
-// In tables of a wide sheet: a part of five numbers, or none.
-pub fn find_wide<'a>(
-    under: &'a [u32],
-    under_count: usize,
-    over: &'a [u32],
-    over_count: usize,
-    frame: u32,
-    setting: u64,
-) -> &'a [u32]
-    ensures { Part Form.Wide under.entry over.entry result (hit Form.Wide under.now under_count over.now over_count frame setting) }
-{
-    find_form(
-        Form::Wide,
-        under,
-        under_count,
-        over,
-        over_count,
-        frame,
-        setting,
-    )
 }

@@ -1,5 +1,5 @@
 -- What is printed, case by case: the laws that the code goes by. Assumes nothing.
-use Rattle.std.specs.Prelude.{ℕ, ◌*◌, ◌/◌, ◌%◌, ◌≤◌, ◌<◌, true, cond, not, List, ◌++◌, ◌≡◌, refl, eqb, ltb, length, take, drop}
+use Rattle.std.specs.Prelude.{Result, ℕ, ◌*◌, ◌/◌, ◌%◌, ◌≤◌, ◌<◌, true, cond, not, List, ◌++◌, ◌≡◌, refl, eqb, ltb, length, take, drop}
 use Rattle.std.proofs.Common.{arith, ◌∙◌, length-append, take_at, length-take-le}
 use Rattle.std.proofs.Math.Nat.{min-eq_left}
 use Rattle.std.proofs.Math.Bool.{false}
@@ -7,7 +7,7 @@ use Rattle.std.proofs.Math.Path.{sym, ap, ap₂}
 use borrow.Author.Tests.{eq-eqb, ne_eqb, le-ltb}
 use Rattle.words.specs.Logic.{tests}
 use Rattle.words.proofs.Logic.{by_bool, or_right, or_left}
-use Rattle.form.specs.Form.{form_of, answer_bytes, answer_start}
+use Rattle.form.specs.Form.{answer_bytes, answer_start}
 use Rattle.form.proofs.FormLaws.{answer_mono}
 use Rattle.form.specs.declared.Form.{Form}
 use Rattle.form.specs.declared.Form.TheVariants.{Narrow, Wide}
@@ -20,8 +20,9 @@ use Rattle.model.proofs.Script.{length-answers}
 use Rattle.certificate.specs.Run.{most_lines, script_causes, room_causes, refusal, book, Run}
 use Rattle.certificate.proofs.Bounds.{place-below}
 use Rattle.text.specs.declared.Parsed.{Parsed}
+use Rattle.text.specs.declared.Unread.{Unread}
 use Rattle.text.specs.Hex.{hex_line, hex_lines}
-use Rattle.text.specs.Reading.{sheet_room, script_room, Reading, reading, read_into, written_over, Read}
+use Rattle.text.specs.Reading.{sheet_room, script_room, Reading, reading, read_into, written_over, form_told, refusal_told, sheet_told, script_told, Read}
 use Rattle.text.proofs.ReadingLaws.{enough-room}
 use Rattle.text.specs.Answer.{answer_line_bytes, answer_lines, with_room, Wrote}
 use Rattle.text.proofs.AnswerLaws.{answers-length}
@@ -70,6 +71,11 @@ pub refusal-length : (F : Form) (number place : ℕ) → length (refusal_line F 
 unfolding refusal_line hex_line
 refusal-length Narrow number place = refl
 refusal-length Wide number place = refl
+
+-- n answers of a form, by their size as the code has it
+pub answers-end : (F : Form) (n size : ℕ) → size ≡ answer_bytes F → n * size ≡ answer_start F n
+answers-end Narrow n size e = rw e
+answers-end Wide n size e = rw e
 
 -- equal bytes are printed alike
 pub prints-same : {a b out out' : List ℕ} {r : ℕ} → a ≡ b → Prints a out r out' → Prints b out r out'
@@ -158,6 +164,10 @@ module _ {sheet : Sheet} {script ans under over ans' under' over' : List ℕ} {n
         starts (answers sheet.form (book sheet) script) (drop (answer_start sheet.form (lines script)) ans) (g.answered.written accepted)
         (sym (length-answers sheet.form (book sheet) script))
 
+    -- the end of the answers, by their size as the code has it
+    pub end_fits : (size : ℕ) → size ≡ answer_bytes sheet.form → lines script * size ≤ length ans'
+    end_fits size e = omega (arith, answers-end sheet.form (lines script) size e, answers-start.fits)
+
     pub run_answered : all_lines sheet.form (take (answer_start sheet.form (lines script)) ans') ≡ printed_run sheet script
     unfolding printed_run
     run_answered =
@@ -166,34 +176,34 @@ module _ {sheet : Sheet} {script ans under over ans' under' over' : List ℕ} {n
 
 -- ---- a text
 
-module _ {text sheet script sheet' script' : List ℕ} {r : Parsed} (g : Read text sheet script r sheet' script')
+module _ {text sheet script sheet' script' : List ℕ} {r : Result Parsed Unread} (g : Read text sheet script r sheet' script')
     (a : sheet_room ≤ length sheet) (b : script_room ≤ length script) where
   reads : read_into (length sheet) (length script) text ≡ reading text
   reads = enough-room (length sheet) (length script) text a b
 
-  refusal_is : r.refusal ≡ (reading text).refusal
+  refusal_is : refusal_told r ≡ (reading text).refusal
   refusal_is = g.refusal ∙ ap (λ (k : Reading). k.refusal) reads
 
-  form-is : form_of r.wide ≡ (reading text).form
+  form-is : form_told r ≡ (reading text).form
   form-is = g.form ∙ ap (λ (k : Reading). k.form) reads
 
-  pub text_refused : (r.refusal ≡ 0 → ⊥) → refusal_line (form_of r.wide) r.refusal 0 ≡ printed text
+  pub text_refused : (refusal_told r ≡ 0 → ⊥) → refusal_line (form_told r) (refusal_told r) 0 ≡ printed text
   unfolding printed
   text_refused h =
       ap₂ (λ (F : Form) (n : ℕ). refusal_line F n 0) form-is refusal_is
       ∙ sym (printed-refused (reading text) (λ z. h (refusal_is ∙ z)))
 
-  sheet-start : Starts (reading text).sheet sheet' r.sheet
+  sheet-start : Starts (reading text).sheet sheet' (sheet_told r)
   sheet-start =
       let e = ap (λ (k : Reading). k.sheet) reads in
       starts (reading text).sheet (drop (length (reading text).sheet) sheet) (g.sheet-bytes ∙ ap (λ (x : List ℕ). written_over x sheet) e) (g.sheet-length ∙ ap length e)
 
-  script_start : Starts (reading text).script script' r.script
+  script_start : Starts (reading text).script script' (script_told r)
   script_start =
       let e = ap (λ (k : Reading). k.script) reads in
       starts (reading text).script (drop (length (reading text).script) script) (g.script_bytes ∙ ap (λ (x : List ℕ). written_over x script) e) (g.script_length ∙ ap length e)
 
-  pub text_read : r.refusal ≡ 0 → printed_run (sheet_of (form_of r.wide) (take r.sheet sheet')) (take r.script script') ≡ printed text
+  pub text_read : refusal_told r ≡ 0 → printed_run (sheet_of (form_told r) (take (sheet_told r) sheet')) (take (script_told r) script') ≡ printed text
   unfolding printed
   text_read h =
       ap₂ printed_run (ap₂ sheet_of form-is sheet-start.part) script_start.part

@@ -1,105 +1,79 @@
 // What the program prints for a text of either form: the lines of the answers, or one line for a refusal.
 #![tactic(auto)]
 
-ghost use Rattle.form.specs.Form.{form_of};
-ghost use Rattle.sheet.specs.Fields.{sheet_of, narrow, wide};
+ghost use Rattle.std.specs.Prelude.{◌<◌, ◌≤◌};
+ghost use Rattle.form.specs.Form as Sizes;
+ghost use Rattle.sheet.specs.Fields.{sheet_of};
+ghost use Rattle.sheet.specs.Told.{number_of};
+ghost use Rattle.certificate.specs.Run.{most_lines};
 ghost use Rattle.response.specs.Printed.{all_lines, refusal_line, printed_run, printed, Prints};
 
 use form::Form;
+use sheet::refusal::Refused;
 
-// Room for the answers of the longest script.
-const ANSWERS: usize = 1000 * text::ANSWER_BYTES;
+// The lengths of arrays, which must be constants, for each form: room for the answers of the longest script, of six bytes each, or of ten.
+const ANSWERS: usize = 1000 * 6;
 
-const WIDE_ANSWERS: usize = 1000 * text::WIDE_ANSWER_BYTES;
+const WIDE_ANSWERS: usize = 1000 * 10;
 
 // 500 records of three numbers, or of five.
-const TABLE: usize = 1500;
+const TABLE: usize = 500 * 3;
 
-const WIDE_TABLE: usize = 2500;
+const WIDE_TABLE: usize = 500 * 5;
 
 // Writes the lines of all answers, or nothing where they have no room.
-fn print_answers(answers: &[u8], out: &mut [u8]) -> usize
-    ensures { Prints (all_lines Form.Narrow answers.now) out.old result out.new }
+fn print_answers(answers: &[u8], form: Form, out: &mut [u8]) -> usize
+    ensures { Prints (all_lines form answers.now) out.old result out.new }
 {
-    if out.len() / text::LINE_BYTES < answers.len() / text::ANSWER_BYTES {
+    let size = form::answer_bytes(form);
+    if out.len() / (2 * size + 1) < answers.len() / size {
         return 0;
     }
-    text::answer_lines(answers, out)
-}
-
-fn print_wide_answers(answers: &[u8], out: &mut [u8]) -> usize
-    ensures { Prints (all_lines Form.Wide answers.now) out.old result out.new }
-{
-    if out.len() / text::WIDE_LINE_BYTES < answers.len() / text::WIDE_ANSWER_BYTES {
-        return 0;
-    }
-    text::answer_lines_wide(answers, out)
+    text::answer_lines(answers, form, out)
 }
 
 // Writes the line of a refusal, which has as many bytes as an answer.
-fn print_refusal(number: u8, place: u8, out: &mut [u8]) -> usize
-    ensures { Prints (refusal_line Form.Narrow number place) out.old result out.new }
+fn print_refusal(refused: Refused, form: Form, out: &mut [u8]) -> usize
+    requires { refused.place < Sizes.most_frames form }
+    ensures { Prints (refusal_line form (number_of refused.fault) refused.place) out.old result out.new }
 {
-    let answer = [number, place, 0, 0, 0, 0];
-    print_answers(&answer, out)
-}
-
-fn print_wide_refusal(number: u8, place: u16, out: &mut [u8]) -> usize
-    ensures { Prints (refusal_line Form.Wide number place) out.old result out.new }
-{
-    let high = (place / 256) as u8;
-    let low = (place % 256) as u8;
-    let answer = [number, high, low, 0, 0, 0, 0, 0, 0, 0];
-    print_wide_answers(&answer, out)
-}
-
-// Writes the line of a text that is refused: its place is 0.
-fn print_unread(form: Form, number: u8, out: &mut [u8]) -> usize
-    ensures { Prints (refusal_line form number 0) out.old result out.new }
-{
+    let number = refused.fault.number();
+    let [high, low] = refused.place.to_be_bytes();
     match form {
-        Form::Narrow => print_refusal(number, 0, out),
-        Form::Wide => print_wide_refusal(number, 0, out),
+        Form::Narrow => print_answers(&[number, low, 0, 0, 0, 0], form, out),
+        Form::Wide => print_answers(&[number, high, low, 0, 0, 0, 0, 0, 0, 0], form, out),
     }
 }
 
-// Runs a script over a narrow sheet and writes its answers, or its refusal.
-fn print_narrow(sheet: &[u8], script: &[u8], out: &mut [u8]) -> usize
-    ensures { Prints (printed_run (narrow sheet.now) script.now) out.old result out.new }
+// Runs a script over a sheet and writes its answers, or its refusal, with room for so many bytes of answers and so many numbers in a table.
+fn print_run_sized<const ROOM: usize, const NUMBERS: usize>(
+    sheet: &[u8],
+    form: Form,
+    script: &[u8],
+    out: &mut [u8],
+) -> usize
+    requires { (Sizes.answer_start form most_lines ≤ ROOM) × (ROOM ≤ 10000) × (NUMBERS ≤ 2500) }
+    ensures { Prints (printed_run (sheet_of form sheet.now) script.now) out.old result out.new }
 {
-    let mut answers = [0u8; ANSWERS];
-    let mut under = [0u32; TABLE];
-    let mut over = [0u32; TABLE];
-    let ran = run::run(sheet, script, &mut answers, &mut under, &mut over);
-    if ran.number != 0 {
-        let place = ran.place as u8;
-        return print_refusal(ran.number, place, out);
+    let mut answers = [0u8; ROOM];
+    let mut under = [0u32; NUMBERS];
+    let mut over = [0u32; NUMBERS];
+    match run::run(sheet, form, script, &mut answers, &mut under, &mut over) {
+        Err(refused) => print_refusal(refused, form, out),
+        Ok(_) => {
+            let end = script.len() / 4 * form::answer_bytes(form);
+            print_answers(&answers[..end], form, out)
+        }
     }
-    let end = script.len() / 4 * text::ANSWER_BYTES;
-    print_answers(&answers[..end], out)
 }
 
-// The same over a wide one.
-fn print_wide(sheet: &[u8], script: &[u8], out: &mut [u8]) -> usize
-    ensures { Prints (printed_run (wide sheet.now) script.now) out.old result out.new }
-{
-    let mut answers = [0u8; WIDE_ANSWERS];
-    let mut under = [0u32; WIDE_TABLE];
-    let mut over = [0u32; WIDE_TABLE];
-    let ran = run::run_wide(sheet, script, &mut answers, &mut under, &mut over);
-    if ran.number != 0 {
-        return print_wide_refusal(ran.number, ran.place, out);
-    }
-    let end = script.len() / 4 * text::WIDE_ANSWER_BYTES;
-    print_wide_answers(&answers[..end], out)
-}
-
-fn print_run(form: Form, sheet: &[u8], script: &[u8], out: &mut [u8]) -> usize
+// The same with room for the longest script of the form.
+fn print_run(sheet: &[u8], form: Form, script: &[u8], out: &mut [u8]) -> usize
     ensures { Prints (printed_run (sheet_of form sheet.now) script.now) out.old result out.new }
 {
     match form {
-        Form::Narrow => print_narrow(sheet, script, out),
-        Form::Wide => print_wide(sheet, script, out),
+        Form::Narrow => print_run_sized::<ANSWERS, TABLE>(sheet, form, script, out),
+        Form::Wide => print_run_sized::<WIDE_ANSWERS, WIDE_TABLE>(sheet, form, script, out),
     }
 }
 
@@ -109,12 +83,13 @@ pub fn respond(text: &[u8], out: &mut [u8]) -> usize
 {
     let mut sheet = [0u8; text::SHEET_BYTES];
     let mut script = [0u8; text::SCRIPT_BYTES];
-    let parsed = text::read(text, &mut sheet, &mut script);
-    let form = form::of(parsed.wide);
-    if parsed.refusal != 0 {
-        return print_unread(form, parsed.refusal, out);
+    match text::read(text, &mut sheet, &mut script) {
+        Err(unread) => print_refusal(Refused::from(unread.fault), unread.form, out),
+        Ok(parsed) => print_run(
+            &sheet[..parsed.sheet],
+            parsed.form,
+            &script[..parsed.script],
+            out,
+        ),
     }
-    let sheet_end = parsed.sheet;
-    let script_end = parsed.script;
-    print_run(form, &sheet[..sheet_end], &script[..script_end], out)
 }

@@ -1,76 +1,44 @@
 // The bytes of an answer: its number, V, and a word of four bytes or of eight, highest first.
-ghost use Rattle.std.specs.Prelude.{◌≡◌, [], ◌∷◌, ◌+◌, ◌*◌, ◌/◌, ◌%◌, ◌^◌, ◌<◌, ◌≤◌, length};
-ghost use Rattle.std.proofs.lemmas.List.Edits.{sets};
-ghost use Rattle.words.specs.Bytes.{bytes_of};
-ghost use Rattle.form.specs.Form.{form_of, answers_in, answer_start};
+ghost use Rattle.std.specs.Prelude.{◌≡◌, ◌∷◌, ◌+◌, ◌<◌, ◌≤◌, length};
+ghost use Rattle.form.specs.Form.{answers_in, answer_start};
 ghost use Rattle.model.specs.Model.{answer_bytes};
+ghost use Rattle.sheet.specs.Told.{fault_number};
+ghost use Rattle.session.specs.Line.{v_told, word_told};
 ghost use Rattle.certificate.specs.Written.{written};
 
 use form::Form;
 use session::Answer;
+use sheet::refusal::Fault;
 
-// Byte k of a word; 0 is the lowest.
-fn byte(word: u64, k: u8) -> u8
-    requires { k < 4 }
-    ensures { result ≡ word / 2 ^ (8 * k) % 256 }
-{
-    ((word >> (8 * k)) % 256) as u8
-}
-
-// Stores a number and V.
-fn put2(answers: &mut [u8], at: usize, number: u8, v: u8)
-    requires { at + 2 ≤ length answers.old }
-    ensures { answers.new ≡ sets answers.old at (number ∷ v ∷ []) }
+// Writes an answer by its parts, from the place on.
+fn write_parts(answers: &mut [u8], at: usize, number: u8, v: u8, word: &[u8])
+    requires { (at + 2 + length word.now ≤ length answers.old) }
+    ensures { answers.new ≡ written answers.old at (number ∷ v ∷ word.now) }
 {
     answers[at] = number;
     answers[at + 1] = v;
+    answers[at + 2..at + 2 + word.len()].copy_from_slice(word);
 }
 
-// Stores the four lowest bytes of a word, the highest of them first.
-fn put4(answers: &mut [u8], at: usize, word: u64)
-    requires { at + 4 ≤ length answers.old }
-    ensures { answers.new ≡ sets answers.old at (bytes_of 4 word) }
+// Writes an answer's number, V and word at the place of line i: the narrow form has room for the word's four lowest bytes.
+fn write_form(answers: &mut [u8], form: Form, i: usize, number: u8, v: u8, word: u64)
+    requires { i < answers_in form (length answers.old) }
+    ensures { answers.new ≡ written answers.old (answer_start form i) (answer_bytes form (record { number = number; v = v; word = word })) }
 {
-    let b3 = byte(word, 3);
-    let b2 = byte(word, 2);
-    let b1 = byte(word, 1);
-    let b0 = byte(word, 0);
-    answers[at] = b3;
-    answers[at + 1] = b2;
-    answers[at + 2] = b1;
-    answers[at + 3] = b0;
-}
-
-// Writes the answer of line i at its place: six bytes.
-fn write_narrow(answers: &mut [u8], i: usize, answer: Answer)
-    requires { i < answers_in Form.Narrow (length answers.old) }
-    ensures { answers.new ≡ written answers.old (answer_start Form.Narrow i) (answer_bytes Form.Narrow (record { number = answer.number; v = answer.v; word = answer.word })) }
-{
-    let at = i * 6;
-    put2(answers, at, answer.number, answer.v);
-    put4(answers, at + 2, answer.word);
-}
-
-// Writes the answer of line i at its place: ten bytes.
-fn write_wide(answers: &mut [u8], i: usize, answer: Answer)
-    requires { i < answers_in Form.Wide (length answers.old) }
-    ensures { answers.new ≡ written answers.old (answer_start Form.Wide i) (answer_bytes Form.Wide (record { number = answer.number; v = answer.v; word = answer.word })) }
-{
-    let at = i * 10;
-    let high = answer.word >> 32;
-    put2(answers, at, answer.number, answer.v);
-    put4(answers, at + 2, high);
-    put4(answers, at + 6, answer.word);
-}
-
-// Writes the answer of line i at its place.
-pub fn write_at(answers: &mut [u8], wide: bool, i: usize, answer: Answer)
-    requires { i < answers_in (form_of wide) (length answers.old) }
-    ensures { answers.new ≡ written answers.old (answer_start (form_of wide) i) (answer_bytes (form_of wide) (record { number = answer.number; v = answer.v; word = answer.word })) }
-{
-    if wide {
-        write_wide(answers, i, answer);
-        return;
+    let bytes = word.to_be_bytes();
+    match form {
+        Form::Narrow => write_parts(answers, i * 6, number, v, &bytes[4..]),
+        Form::Wide => write_parts(answers, i * 10, number, v, &bytes),
     }
-    write_narrow(answers, i, answer);
+}
+
+// Writes the answer of line i at its place. A refusal has its number alone.
+pub fn write_at(answers: &mut [u8], form: Form, i: usize, answer: Result<Answer, Fault>)
+    requires { i < answers_in form (length answers.old) }
+    ensures { answers.new ≡ written answers.old (answer_start form i) (answer_bytes form (record { number = fault_number answer; v = v_told answer; word = word_told answer })) }
+{
+    match answer {
+        Ok(told) => write_form(answers, form, i, 0, told.v, told.word),
+        Err(fault) => write_form(answers, form, i, fault.number(), 0, 0),
+    }
 }

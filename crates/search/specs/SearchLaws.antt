@@ -6,7 +6,7 @@ use Rattle.std.specs.Int.Bits.{bit_or}
 use Rattle.words.specs.Logic.{tests}
 use Rattle.words.proofs.Logic.{by_bool, or_left, or_right}
 use Rattle.words.specs.Word.{bit}
-use Rattle.words.proofs.Word.{bit-or, bit-none, ext}
+use Rattle.words.proofs.Bits.{bit-or, bit-none, ext}
 use Rattle.words.specs.Mask.{Apart, without}
 use Rattle.words.proofs.Mask.{bits_apart, apart-sub, apart-sym, without_sub, without-apart}
 use Rattle.cube.specs.Cube.{Fixed}
@@ -39,6 +39,11 @@ module _ {net : List ℕ} {a t loose m w : ℕ} {cells : List ℕ} (P : Posed ne
   pub known-lost : {v r : ℕ} → 0 < v → Right net m w a v r → (v ≡ t → ⊥) → Lost (formula_at net a) (val t) loose w r
   known-lost {v} s f n = record { explains = rw (val-not v t s (f s).low P.target_some P.target_low n) at (f s).explains; apart = apart-inside (f s).assigned P.free.apart }
 
+  -- nothing is left to search
+  pub known_solved : {v r : ℕ} (found : Bool) → 0 < v → Right net m w a v r → (found ≡ true → v ≡ t) → (found ≡ false → v ≡ t → ⊥) → Solved net a t loose w found w r
+  known_solved true s f y n = known_met s f (y refl)
+  known_solved false s f y n = known-lost s f (n refl)
+
   pub posed_cells : {cells' : List ℕ} → Judged net m w cells' → Posed net a t loose m w cells'
   posed_cells j = record {
     grounded = P.grounded;
@@ -59,11 +64,8 @@ module _ {net : List ℕ} {a t loose m w : ℕ} {cells : List ℕ} (P : Posed ne
 
 -- the value of a full candidate decides the search
 module _ {net : List ℕ} {a t loose m w v r : ℕ} {cells : List ℕ} (P : Posed net a t loose m w cells) (T : Told net m w a v r) where
-  pub told_met : v ≡ t → Met (formula_at net a) (val t) (free_of net) loose w w r
-  told_met e = known_met P T.some (λ s. T.forced) e
-
-  pub told_missed : (v ≡ t → ⊥) → Lost (formula_at net a) (val t) loose w r
-  told_missed n = known-lost P T.some (λ s. T.forced) n
+  pub told_solved : (found : Bool) → (found ≡ true → v ≡ t) → (found ≡ false → v ≡ t → ⊥) → Solved net a t loose w found w r
+  told_solved found = known_solved P found T.some (λ s. T.forced)
 
 -- ---- a loose variable x fixed
 

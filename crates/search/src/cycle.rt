@@ -1,8 +1,10 @@
 // The functions that call each other on falling node numbers. Source 000's subtreeIsSolved is `choose` with `extend`, `settle`, `push`, `branch` and
 // `candidate`; its solutionForallChildren is `check` with `evaluate`, `gate` and `quantified`.
-ghost use Rattle.std.specs.Prelude.{◌≡◌, false, ◌+◌, ◌<◌, ◌≤◌};
+ghost use Rattle.std.specs.Prelude.{◌≡◌, true, false, ◌+◌, ◌-◌, ◌^◌, ◌<◌, ◌≤◌};
+ghost use Rattle.words.specs.Word.{bit};
 ghost use Rattle.words.specs.Mask as Mask;
-ghost use Rattle.net.specs.Layout.{net_form, frames_of, changed, Is, decides};
+ghost use Rattle.net.specs.Op.{code_of};
+ghost use Rattle.net.specs.Layout.{net_form, frames_of, changed, Is, decides, val, number};
 ghost use Rattle.judge.specs.Judge.{Judging};
 ghost use Rattle.proxies.specs.Growing.{Growing};
 ghost use Rattle.proxies.specs.Kept.{Noted};
@@ -12,11 +14,11 @@ use cube::Cube64;
 use implicant::implicant;
 use judge::{Known, cells, forward, known_at};
 use net::node::decided;
-use net::{Node, node_at};
+use net::{Node, Op, node_at};
 use phase::one_first;
 use proxies::{body_shows, note, recorded};
 use records::Counts;
-use words::w64;
+use words::Word;
 
 // What a search found: a word with its reason, or that there is none with the reason. And how many records each table then holds.
 #[derive(Clone, Copy)]
@@ -27,11 +29,10 @@ pub struct Outcome {
     pub kept: Counts,
 }
 
-// A node's value under a full candidate and its reason, the chain's head, and how many records each table then holds.
+// What is known of a node under a full candidate, the chain's head, and how many records each table then holds.
 #[derive(Clone, Copy)]
 struct Valued {
-    value: u8,
-    reason: u64,
+    known: Known,
     head: u16,
     kept: Counts,
 }
@@ -52,10 +53,10 @@ pub fn choose(
     over: &mut [u32],
     kept: Counts,
 ) -> Outcome
-    requires is { Is net.now i node.op node.left node.right node.mask × (6 ≤ node.op) }
+    requires is { Is net.now i (code_of node.op) node.left node.right node.mask × (6 ≤ code_of node.op) }
     requires checked { Checked net.now i cube.mask cube.values cells.old }
     requires lent { Lent net.now wants.old under.old kept.under over.old kept.over }
-    ensures solved { Solved net.now node.left (decides node.op) node.mask (Mask.without cube.values node.mask) result.found result.word result.reason × (cells.new ≡ cells.old) }
+    ensures solved { Solved net.now node.left (decides (code_of node.op)) node.mask (Mask.without cube.values node.mask) result.found result.word result.reason × (cells.new ≡ cells.old) }
     ensures growing { Growing net.now under.old kept.under over.old kept.over under.new result.kept.under over.new result.kept.over }
 {
     let inner = cube.free_all(node.mask);
@@ -65,13 +66,7 @@ pub fn choose(
     );
     if out.found {
         let why = implicant(net, node.left, d, out.word, out.reason, node.mask, wants);
-        let after = out.kept;
-        return Outcome {
-            found: true,
-            word: out.word,
-            reason: why,
-            kept: after,
-        };
+        return Outcome { reason: why, ..out };
     }
     out
 }
@@ -100,7 +95,7 @@ fn begin(fresh: u64, loose: u64) -> u64 {
 fn extend(
     net: &[u64],
     a: usize,
-    target: u8,
+    target: bool,
     loose: u64,
     cube: Cube64,
     fresh: u64,
@@ -110,9 +105,9 @@ fn extend(
     over: &mut [u32],
     kept: Counts,
 ) -> Outcome
-    requires posed { Posed net.now a target loose cube.mask cube.values cells.old }
+    requires posed { Posed net.now a (number target) loose cube.mask cube.values cells.old }
     requires lent { Lent net.now wants.old under.old kept.under over.old kept.over }
-    ensures solved { Solved net.now a target loose cube.values result.found result.word result.reason × (cells.new ≡ cells.old) }
+    ensures solved { Solved net.now a (number target) loose cube.values result.found result.word result.reason × (cells.new ≡ cells.old) }
     ensures growing { Growing net.now under.old kept.under over.old kept.over under.new result.kept.under over.new result.kept.over }
 {
     let touched = begin(fresh, loose);
@@ -127,7 +122,7 @@ fn extend(
 fn settle(
     net: &[u64],
     a: usize,
-    target: u8,
+    target: bool,
     loose: u64,
     cube: Cube64,
     cells: &mut [u64],
@@ -136,27 +131,13 @@ fn settle(
     over: &mut [u32],
     kept: Counts,
 ) -> Outcome
-    requires posed { Posed net.now a target loose cube.mask cube.values cells.old }
+    requires posed { Posed net.now a (number target) loose cube.mask cube.values cells.old }
     requires lent { Lent net.now wants.old under.old kept.under over.old kept.over }
-    ensures solved { Solved net.now a target loose cube.values result.found result.word result.reason × (cells.new ≡ cells.old) }
+    ensures solved { Solved net.now a (number target) loose cube.values result.found result.word result.reason × (cells.new ≡ cells.old) }
     ensures growing { Growing net.now under.old kept.under over.old kept.over under.new result.kept.under over.new result.kept.over }
 {
-    let known = known_at(&cells[..], a);
-    if known.value != 0 {
-        if known.value == target {
-            return Outcome {
-                found: true,
-                word: cube.values,
-                reason: known.reason,
-                kept,
-            };
-        }
-        return Outcome {
-            found: false,
-            word: cube.values,
-            reason: known.reason,
-            kept,
-        };
+    if let Some(known) = known_at(&cells[..], a) {
+        return verdict(known, target, cube.values, kept);
     }
     if loose == 0 {
         return candidate(net, a, target, cube, cells, wants, under, over, kept);
@@ -173,7 +154,7 @@ fn settle(
 fn push(
     net: &[u64],
     a: usize,
-    target: u8,
+    target: bool,
     loose: u64,
     cube: Cube64,
     cells: &mut [u64],
@@ -183,16 +164,15 @@ fn push(
     kept: Counts,
 ) -> Outcome
     requires loose_nonzero { 0 < loose }
-    requires posed { Posed net.now a target loose cube.mask cube.values cells.old }
+    requires posed { Posed net.now a (number target) loose cube.mask cube.values cells.old }
     requires lent { Lent net.now wants.old under.old kept.under over.old kept.over }
-    ensures solved { Solved net.now a target loose cube.values result.found result.word result.reason × (cells.new ≡ cells.old) }
+    ensures solved { Solved net.now a (number target) loose cube.values result.found result.word result.reason × (cells.new ≡ cells.old) }
     ensures growing { Growing net.now under.old kept.under over.old kept.over under.new result.kept.under over.new result.kept.over }
 {
     let mut whys = [0u64; 64];
     let f = imply::force(net, a, target, loose, cube, &cells[..], wants, &mut whys);
     if f.mask == 0 {
-        let t = lanes::solve(net, a, target, loose, cube, &cells[..], wants);
-        if t.settled {
+        if let Some(t) = lanes::solve(net, a, target, loose, cube, &cells[..], wants) {
             return Outcome {
                 found: t.found,
                 word: t.word,
@@ -202,7 +182,7 @@ fn push(
         }
         return branch(net, a, target, loose, cube, cells, wants, under, over, kept);
     }
-    let rest = w64::without(loose, f.mask);
+    let rest = loose.without(f.mask);
     let inner = Cube64 {
         mask: cube.mask | f.mask,
         values: cube.values | f.values,
@@ -214,12 +194,10 @@ fn push(
         return out;
     }
     let why = imply::gather(&whys, out.reason & f.mask);
-    let after = out.kept;
     Outcome {
-        found: false,
         word: 0,
-        reason: w64::without(out.reason, f.mask) | why,
-        kept: after,
+        reason: out.reason.without(f.mask) | why,
+        ..out
     }
 }
 
@@ -228,7 +206,7 @@ fn push(
 fn branch(
     net: &[u64],
     a: usize,
-    target: u8,
+    target: bool,
     loose: u64,
     cube: Cube64,
     cells: &mut [u64],
@@ -238,14 +216,14 @@ fn branch(
     kept: Counts,
 ) -> Outcome
     requires loose_nonzero { 0 < loose }
-    requires posed { Posed net.now a target loose cube.mask cube.values cells.old }
+    requires posed { Posed net.now a (number target) loose cube.mask cube.values cells.old }
     requires lent { Lent net.now wants.old under.old kept.under over.old kept.over }
-    ensures solved { Solved net.now a target loose cube.values result.found result.word result.reason × (cells.new ≡ cells.old) }
+    ensures solved { Solved net.now a (number target) loose cube.values result.found result.word result.reason × (cells.new ≡ cells.old) }
     ensures growing { Growing net.now under.old kept.under over.old kept.over under.new result.kept.under over.new result.kept.over }
 {
-    let x = w64::highest(loose);
-    let only = w64::one(x);
-    let rest = w64::without(loose, only);
+    let x = loose.highest();
+    let only = u64::one(x);
+    let rest = loose.without(only);
     let first = one_first(net, x);
     let begun = cube.fix(x, first);
     let low = extend(
@@ -254,26 +232,35 @@ fn branch(
     if low.found {
         return low;
     }
-    if !w64::has(low.reason, x) {
+    if !low.reason.has(x) {
         return low;
     }
     let turned = cube.fix(x, !first);
-    let between = low.kept;
     let high = extend(
-        net, a, target, rest, turned, only, cells, wants, under, over, between,
+        net, a, target, rest, turned, only, cells, wants, under, over, low.kept,
     );
     if high.found {
         return high;
     }
-    if !w64::has(high.reason, x) {
+    if !high.reason.has(x) {
         return high;
     }
-    let after = high.kept;
     Outcome {
-        found: false,
         word: 0,
-        reason: w64::without(low.reason | high.reason, only),
-        kept: after,
+        reason: (low.reason | high.reason).without(only),
+        ..high
+    }
+}
+
+// What a search finds where the node's truth is known.
+fn verdict(known: Known, target: bool, word: u64, kept: Counts) -> Outcome
+    ensures { (result.found ≡ true → number known.truth ≡ number target) × (result.found ≡ false → number known.truth ≡ number target → ⊥) × (result.word ≡ word) × (result.reason ≡ known.reason) × (result.kept ≡ kept) }
+{
+    Outcome {
+        found: known.truth == target,
+        word,
+        reason: known.reason,
+        kept,
     }
 }
 
@@ -282,7 +269,7 @@ fn branch(
 fn candidate(
     net: &[u64],
     a: usize,
-    target: u8,
+    target: bool,
     cube: Cube64,
     cells: &mut [u64],
     wants: &mut [u64],
@@ -290,28 +277,14 @@ fn candidate(
     over: &mut [u32],
     kept: Counts,
 ) -> Outcome
-    requires posed { Posed net.now a target 0 cube.mask cube.values cells.old }
+    requires posed { Posed net.now a (number target) 0 cube.mask cube.values cells.old }
     requires lent { Lent net.now wants.old under.old kept.under over.old kept.over }
-    ensures solved { Solved net.now a target 0 cube.values result.found result.word result.reason × (cells.new ≡ cells.old) }
+    ensures solved { Solved net.now a (number target) 0 cube.values result.found result.word result.reason × (cells.new ≡ cells.old) }
     ensures growing { Growing net.now under.old kept.under over.old kept.over under.new result.kept.under over.new result.kept.over }
 {
     let c = check(net, a, cube, cells, wants, cells::END, under, over, kept);
     cells::undo(cells, c.head);
-    let after = c.kept;
-    if c.value == target {
-        return Outcome {
-            found: true,
-            word: cube.values,
-            reason: c.reason,
-            kept: after,
-        };
-    }
-    Outcome {
-        found: false,
-        word: cube.values,
-        reason: c.reason,
-        kept: after,
-    }
+    verdict(c.known, target, cube.values, c.kept)
 }
 
 // The value of node i under a full candidate. It goes down to the quantifiers that the value still depends on, so that a proxy stays undefined until it
@@ -330,59 +303,43 @@ fn check(
 ) -> Valued
     requires i_bound { (i < frames_of net.now + 2) × Checked net.now i cube.mask cube.values cells.old }
     requires lent { Lent net.now wants.old under.old kept.under over.old kept.over }
-    ensures told { Told net.now cube.mask cube.values i result.value result.reason × Judging net.now cube.mask cube.values cells.old head cells.new result.head }
+    ensures told { Told net.now cube.mask cube.values i (number result.known.truth) result.known.reason × Judging net.now cube.mask cube.values cells.old head cells.new result.head }
     ensures growing { Growing net.now under.old kept.under over.old kept.over under.new result.kept.under over.new result.kept.over }
 {
-    let known = known_at(&cells[..], i);
-    if known.value != 0 {
-        return Valued {
-            value: known.value,
-            reason: known.reason,
-            head,
-            kept,
-        };
+    if let Some(known) = known_at(&cells[..], i) {
+        return Valued { known, head, kept };
     }
     let c = evaluate(net, i, cube, cells, wants, head, under, over, kept);
-    let at = forward::keep(
-        cells,
-        i,
-        Known {
-            value: c.value,
-            reason: c.reason,
-        },
-        c.head,
-    );
-    let after = c.kept;
-    Valued {
-        value: c.value,
-        reason: c.reason,
-        head: at,
-        kept: after,
+    let at = forward::keep(cells, i, c.known, c.head);
+    Valued { head: at, ..c }
+}
+
+// A variable under a full candidate.
+fn input(values: u64, v: u8) -> Known
+    requires { v < 64 }
+    ensures { (val (number result.truth) ≡ bit values v) × (result.reason ≡ 2 ^ v) }
+{
+    Known {
+        truth: values.has(v),
+        reason: u64::one(v),
     }
 }
 
 // A constant, or an input under a full candidate.
-fn leaf(op: u8, left: usize, cube: Cube64) -> Known
-    requires { (op < 3) × (op ≡ 2 → left < 64) }
-    ensures { Leaf op left cube.values result.value result.reason }
+fn leaf(op: Op, left: usize, cube: Cube64) -> Known
+    requires { (code_of op < 3) × (code_of op ≡ 2 → left < 64) }
+    ensures { Leaf (code_of op) left cube.values (number result.truth) result.reason }
 {
-    if op < 2 {
-        return Known {
-            value: op + 1,
+    match op {
+        Op::False => Known {
+            truth: false,
             reason: 0,
-        };
-    }
-    let v = forward::variable(left);
-    let only = w64::one(v);
-    if w64::has(cube.values, v) {
-        return Known {
-            value: 2,
-            reason: only,
-        };
-    }
-    Known {
-        value: 1,
-        reason: only,
+        },
+        Op::True => Known {
+            truth: true,
+            reason: 0,
+        },
+        _ => input(cube.values, forward::variable(left)),
     }
 }
 
@@ -401,42 +358,42 @@ fn evaluate(
 ) -> Valued
     requires i_bound { (i < frames_of net.now + 2) × Checked net.now i cube.mask cube.values cells.old }
     requires lent { Lent net.now wants.old under.old kept.under over.old kept.over }
-    ensures told { Told net.now cube.mask cube.values i result.value result.reason × Judging net.now cube.mask cube.values cells.old head cells.new result.head }
+    ensures told { Told net.now cube.mask cube.values i (number result.known.truth) result.known.reason × Judging net.now cube.mask cube.values cells.old head cells.new result.head }
     ensures growing { Growing net.now under.old kept.under over.old kept.over under.new result.kept.under over.new result.kept.over }
 {
     let node = node_at(net, i);
-    let op = node.op;
-    if op < 3 {
-        let known = leaf(op, node.left, cube);
-        return Valued {
-            value: known.value,
-            reason: known.reason,
-            head,
-            kept,
-        };
+    match node.op {
+        Op::False | Op::True | Op::Input => {
+            let known = leaf(node.op, node.left, cube);
+            Valued { known, head, kept }
+        }
+        Op::Not => {
+            let c = check(net, node.left, cube, cells, wants, head, under, over, kept);
+            let known = Known {
+                truth: !c.known.truth,
+                ..c.known
+            };
+            Valued { known, ..c }
+        }
+        Op::And => gate(
+            net, i, node, false, cube, cells, wants, head, under, over, kept,
+        ),
+        Op::Or => gate(
+            net, i, node, true, cube, cells, wants, head, under, over, kept,
+        ),
+        Op::Exists | Op::Forall => {
+            quantified(net, i, node, cube, cells, wants, head, under, over, kept)
+        }
     }
-    if op == 3 {
-        let c = check(net, node.left, cube, cells, wants, head, under, over, kept);
-        let after = c.kept;
-        return Valued {
-            value: 3 - c.value,
-            reason: c.reason,
-            head: c.head,
-            kept: after,
-        };
-    }
-    if op < 6 {
-        return gate(net, i, node, cube, cells, wants, head, under, over, kept);
-    }
-    quantified(net, i, node, cube, cells, wants, head, under, over, kept)
 }
 
-// The value of a gate. AND is decided by 1, OR by 2.
+// The truth of a gate that d decides: an AND by false, an OR by true.
 #[cycle(branch_candidate_check_choose_evaluate_extend_gate_push_quantified_settle)]
 fn gate(
     net: &[u64],
     i: usize,
     node: Node,
+    d: bool,
     cube: Cube64,
     cells: &mut [u64],
     wants: &mut [u64],
@@ -445,31 +402,27 @@ fn gate(
     over: &mut [u32],
     kept: Counts,
 ) -> Valued
-    requires is { Is net.now i node.op node.left node.right node.mask × (4 ≤ node.op) × (node.op < 6) }
+    requires is { Is net.now i (code_of node.op) node.left node.right node.mask × (4 ≤ code_of node.op) × (code_of node.op < 6) × (number d ≡ code_of node.op - 3) }
     requires i_bound { (i < frames_of net.now + 2) × Checked net.now i cube.mask cube.values cells.old }
     requires lent { Lent net.now wants.old under.old kept.under over.old kept.over }
-    ensures told { Told net.now cube.mask cube.values i result.value result.reason × Judging net.now cube.mask cube.values cells.old head cells.new result.head }
+    ensures told { Told net.now cube.mask cube.values i (number result.known.truth) result.known.reason × Judging net.now cube.mask cube.values cells.old head cells.new result.head }
     ensures growing { Growing net.now under.old kept.under over.old kept.over under.new result.kept.under over.new result.kept.over }
 {
-    let d = node.op - 3;
     let c = check(net, node.left, cube, cells, wants, head, under, over, kept);
-    if c.value == d {
+    if c.known.truth == d {
         return c;
     }
-    let between = c.kept;
     let e = check(
-        net, node.right, cube, cells, wants, c.head, under, over, between,
+        net, node.right, cube, cells, wants, c.head, under, over, c.kept,
     );
-    if e.value == d {
+    if e.known.truth == d {
         return e;
     }
-    let after = e.kept;
-    Valued {
-        value: e.value,
-        reason: c.reason | e.reason,
-        head: e.head,
-        kept: after,
-    }
+    let known = Known {
+        reason: c.known.reason | e.known.reason,
+        ..e.known
+    };
+    Valued { known, ..e }
 }
 
 // The value of a quantifier. An agreeing record settles it; else its body is searched, and what that shows is kept. Behind the frames, and
@@ -487,29 +440,21 @@ fn quantified(
     over: &mut [u32],
     kept: Counts,
 ) -> Valued
-    requires is { Is net.now i node.op node.left node.right node.mask × (6 ≤ node.op) }
+    requires is { Is net.now i (code_of node.op) node.left node.right node.mask × (6 ≤ code_of node.op) }
     requires i_bound { (i < frames_of net.now + 2) × Checked net.now i cube.mask cube.values cells.old }
     requires lent { Lent net.now wants.old under.old kept.under over.old kept.over }
-    ensures told { Told net.now cube.mask cube.values i result.value result.reason × Judging net.now cube.mask cube.values cells.old head cells.new result.head }
+    ensures told { Told net.now cube.mask cube.values i (number result.known.truth) result.known.reason × Judging net.now cube.mask cube.values cells.old head cells.new result.head }
     ensures growing { Growing net.now under.old kept.under over.old kept.over under.new result.kept.under over.new result.kept.over }
-    ensures noted { i < frames_of net.now → changed net.now i ≡ false → Noted (net_form net.now) i result.value cube.values under.new result.kept.under over.new result.kept.over }
+    ensures noted { i < frames_of net.now → changed net.now i ≡ false → Noted (net_form net.now) i (number result.known.truth) cube.values under.new result.kept.under over.new result.kept.over }
 {
-    let known = recorded(net, i, cube.values, &under[..], &over[..], kept);
-    if known.value != 0 {
-        return Valued {
-            value: known.value,
-            reason: known.reason,
-            head,
-            kept,
-        };
+    if let Some(known) = recorded(net, i, cube.values, &under[..], &over[..], kept) {
+        return Valued { known, head, kept };
     }
     let s = choose(net, i, node, cube, 0, cells, wants, under, over, kept);
     let shown = body_shows(node, s.found, s.reason);
-    let between = s.kept;
-    let after = note(net, i, shown, cube.values, under, over, between);
+    let after = note(net, i, shown, cube.values, under, over, s.kept);
     Valued {
-        value: shown.value,
-        reason: shown.reason,
+        known: shown,
         head,
         kept: after,
     }

@@ -36,7 +36,7 @@ module _ {s : Sheet} {free : ℕ} {x : Session} {u o : List ℕ} (d : Sound s fr
   sound_opens e v = sym (rw (e, d.sheet.opens) (bit_opens (variables s) (root s) (gauges s) v))
 
 -- as the solver wants its entries
-pub net_ready : {s : Sheet} {net : List ℕ} {x : Session} {u o : List ℕ} → OnNet s net x u o → Ready s net x.entered.mask x.entered.values u x.under o x.over
+pub net_ready : {s : Sheet} {net : List ℕ} {x : Session} {u o : List ℕ} → OnNet s net x u o → Ready s net x.entered.mask x.entered.values u x.kept.under o x.kept.over
 net_ready {s} d = record {
   checked = d.sound.sheet;
   net_of = d.net_of;

@@ -22,7 +22,10 @@ use Rattle.model.specs.Line.{Passes}
 use Rattle.model.proofs.Line.{refusal-none, line_refused, line_taken}
 use Rattle.model.proofs.Invariant.{line-keeps}
 use Rattle.session.specs.Sound.{standing_of, sheet_meaning, Shaped, Fresh, Sound}
-use Rattle.session.proofs.Sound.{sound_length}
+use Rattle.session.proofs.Sound.{sound_length, sound_opens}
+use Rattle.session.specs.declared.script.Line.{Line}
+use Rattle.session.specs.Line.{refusal_of}
+use Rattle.model.specs.Causes.{Opens}
 use Rattle.session.specs.Step.{ask_of, why_of, PromisedFor, Tells, Replies, Recounted, Searches, Untouched, searches, Step}
 
 -- ---- the entries' words, one entry more and one less
@@ -81,7 +84,7 @@ same_tells s t = record {
 -- ---- a search, put together
 
 pub searched : {s : Sheet} {u o u' o' : List ℕ} {x x' : Session} {a : Verdict} {holds : Bool} {word cu co number v w : ℕ}
-    → Same a holds word → TablesGrown s u x.under o x.over u' cu o' co → Recounted x cu co x'
+    → Same a holds word → TablesGrown s u x.kept.under o x.kept.over u' cu o' co → Recounted x cu co x'
     → Tells (judged (record { holds = holds; word = word })) number v w → Searches s x u o a x' u' o' number v w
 searched e k r t = record {
   tells = same_tells e t;
@@ -90,6 +93,12 @@ searched e k r t = record {
   entered = r.entered;
   kept = rw (r.under, r.over) k;
 }
+
+-- ---- a line that the session takes, for the free variables of its sheet, is one that no cause refuses
+
+pub takes : {s : Sheet} {free f : ℕ} {x : Session} {u o : List ℕ} {line line' : Line} → Sound s free x u o → f ≡ free
+    → ((m : Meaning) → Opens m f → 0 ≡ refusal_of m (standing_of x) line) → line ≡ line' → 0 ≡ refusal_of (sheet_meaning s) (standing_of x) line'
+takes {s} d e t i = rw i at (t (sheet_meaning s) (sound_opens d e))
 
 -- ---- a line of each kind
 
@@ -105,8 +114,8 @@ module _ {s : Sheet} {free : ℕ} {x : Session} {u o : List ℕ} (d : Sound s fr
       → Replies x (line m es k a b c) x' number v word → Step s free x u o k a b c x' u o number v word
   replies_step {x'} quiet r =
       let M = r.moved in
-      let t = rw (← M.under, ← M.over) at d.tables in
-      let same : Untouched x u o x' u o = record { under = refl; over = refl; under-count = M.under; over-count = M.over } in
+      let t = rw (← M.kept) at d.tables in
+      let same : Untouched x u o x' u o = record { under = refl; over = refl; under-count = rw M.kept; over-count = rw M.kept } in
       record {
         tells = r.tells;
         stands = M.stands;
@@ -118,7 +127,7 @@ module _ {s : Sheet} {free : ℕ} {x : Session} {u o : List ℕ} (d : Sound s fr
           words = M.words;
           tables = t;
         };
-        kept = rw (M.under, M.over) (tables_same d.tables);
+        kept = rw M.kept (tables_same d.tables);
         refused-same = λ h. same;
         quiet_same = λ h. same;
         promised = λ z e. absurd (quiet z e);
@@ -129,6 +138,13 @@ module _ {s : Sheet} {free : ℕ} {x : Session} {u o : List ℕ} (d : Sound s fr
   refused-step {number} e f r =
       let l : line m es k a b c ≡ reply (refused number) es = rw e (line_refused m es k a b c (omega arith)) in
       replies_step (λ z y. f (sym r.tells.number_is ∙ z)) (rw l r)
+
+  -- which leaves the session as it is
+  pub stays-step : {number : ℕ} → number ≡ line_refusal m es k a b c → (number ≡ 0 → ⊥) → Step s free x u o k a b c x u o number 0 0
+  stays-step e f = refused-step e f (record {
+    tells = record { number_is = refl; v-is = refl; word-is = refl };
+    moved = record { cells = d.cells; within = d.within; stands = refl; words = d.words; kept = refl };
+  })
 
   -- a line that is not refused
   module _ {number : ℕ} (is : number ≡ line_refusal m es k a b c) (none : number ≡ 0) where
@@ -175,7 +191,7 @@ module _ {s : Sheet} {free : ℕ} {x : Session} {u o : List ℕ} (d : Sound s fr
 
     -- an ASK or a WHY, which tells the verdict g
     searches-step : {g : Verdict} → obeyed m es k a b c ≡ reply (judged g) es → searches k ≡ true → {x' : Session} {u' o' : List ℕ} {n v w : ℕ}
-        → Searches s x u o g x' u' o' n v w → (k ≡ ASK → PromisedFor s es u' x'.under o' x'.over) → Step s free x u o k a b c x' u' o' n v w
+        → Searches s x u o g x' u' o' n v w → (k ≡ ASK → PromisedFor s es u' x'.kept.under o' x'.kept.over) → Step s free x u o k a b c x' u' o' n v w
     searches-step e q {x'} r p =
         let l = line_taken m es k a b c taken ∙ e in
         let same : standing_of x' ≡ es = rw (r.entries, r.len) in
@@ -197,7 +213,7 @@ module _ {s : Sheet} {free : ℕ} {x : Session} {u o : List ℕ} (d : Sound s fr
         }
 
     pub ask-step : k ≡ ASK → {x' : Session} {u' o' : List ℕ} {n v w : ℕ}
-        → Searches s x u o (ask_of s es) x' u' o' n v w → PromisedFor s es u' x'.under o' x'.over → Step s free x u o k a b c x' u' o' n v w
+        → Searches s x u o (ask_of s es) x' u' o' n v w → PromisedFor s es u' x'.kept.under o' x'.kept.over → Step s free x u o k a b c x' u' o' n v w
     unfolding obeyed meaning
     ask-step e r p = searches-step (rw e) (rw e) r (λ z. p)
 

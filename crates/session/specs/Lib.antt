@@ -1,2 +1,3 @@
 pub mod Sound
 pub mod Step
+pub mod Line

@@ -44,7 +44,7 @@ pub record Sound (s : Sheet) (free : ℕ) (x : Session) (u o : List ℕ) : Type 
   pub within : x.len ≤ 64
   pub entered : Entered (sheet_meaning s) (standing_of x)
   pub words : WordsKept x
-  pub tables : Tables s u x.under o x.over
+  pub tables : Tables s u x.kept.under o x.kept.over
 
 -- ---- on the sheet's net
 
@@ -60,5 +60,5 @@ pub record Empty (x : Session) : Type 0 where
   pub none : x.len ≡ 0
   pub mask : x.entered.mask ≡ 0
   pub values : x.entered.values ≡ 0
-  pub under : x.under ≡ 0
-  pub over : x.over ≡ 0
+  pub under : x.kept.under ≡ 0
+  pub over : x.kept.over ≡ 0

@@ -31,8 +31,7 @@ pub record Moved (x x' : Session) (es : List Entry) : Type 0 where
   pub within : x'.len ≤ 64
   pub stands : standing_of x' ≡ es
   pub words : WordsKept x'
-  pub under : x'.under ≡ x.under
-  pub over : x'.over ≡ x.over
+  pub kept : x'.kept ≡ x.kept
 
 -- a line that looks at no record: its answer, and the session after it
 pub record Replies (x : Session) (y : Reply) (x' : Session) (number v word : ℕ) : Type 0 where
@@ -44,8 +43,8 @@ pub record Recounted (x : Session) (cu co : ℕ) (x' : Session) : Type 0 where
   pub entries : x'.entries ≡ x.entries
   pub len : x'.len ≡ x.len
   pub entered : x'.entered ≡ x.entered
-  pub under : x'.under ≡ cu
-  pub over : x'.over ≡ co
+  pub under : x'.kept.under ≡ cu
+  pub over : x'.kept.over ≡ co
 
 -- a line that searches: the verdict it tells, and the session and the tables after it
 pub record Searches (s : Sheet) (x : Session) (u o : List ℕ) (a : Verdict) (x' : Session) (u' o' : List ℕ) (number v word : ℕ) : Type 0 where
@@ -53,14 +52,14 @@ pub record Searches (s : Sheet) (x : Session) (u o : List ℕ) (a : Verdict) (x'
   pub entries : x'.entries ≡ x.entries
   pub len : x'.len ≡ x.len
   pub entered : x'.entered ≡ x.entered
-  pub kept : TablesGrown s u x.under o x.over u' x'.under o' x'.over
+  pub kept : TablesGrown s u x.kept.under o x.kept.over u' x'.kept.under o' x'.kept.over
 
 -- the tables and the counts are as they were
 pub record Untouched (x : Session) (u o : List ℕ) (x' : Session) (u' o' : List ℕ) : Type 0 where
   pub under : u' ≡ u
   pub over : o' ≡ o
-  pub under-count : x'.under ≡ x.under
-  pub over-count : x'.over ≡ x.over
+  pub under-count : x'.kept.under ≡ x.kept.under
+  pub over-count : x'.kept.over ≡ x.kept.over
 
 -- kinds that may keep records
 abbrev pub searches : ℕ → Bool
@@ -73,9 +72,9 @@ pub record Step (s : Sheet) (free : ℕ) (x : Session) (u o : List ℕ) (k a b c
   pub stands : standing_of x' ≡ (line (sheet_meaning s) (standing_of x) k a b c).entries
   pub sound : Sound s free x' u' o'
   -- every counted record is true, those that were counted stay, and the numbers behind the counts are as found
-  pub kept : TablesGrown s u x.under o x.over u' x'.under o' x'.over
+  pub kept : TablesGrown s u x.kept.under o x.kept.over u' x'.kept.under o' x'.kept.over
   -- a refused line changes no record, and neither do ENTER, TAKE BACK and READ
   pub refused-same : 0 < number → Untouched x u o x' u' o'
   pub quiet_same : searches k ≡ false → Untouched x u o x' u' o'
   -- document 01's promise for an ASK
-  pub promised : number ≡ 0 → k ≡ ASK → PromisedFor s (standing_of x) u' x'.under o' x'.over
+  pub promised : number ≡ 0 → k ≡ ASK → PromisedFor s (standing_of x) u' x'.kept.under o' x'.kept.over

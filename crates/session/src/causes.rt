@@ -1,121 +1,84 @@
-// Why a line is refused: causes 12 to 17 and 24 in their order.
+// Why a line is refused where it is one of the five kinds: causes 13 to 17 and 24 in their order.
 ghost use Rattle.std.specs.Prelude.{◌≡◌, cond, eqb, leb};
 ghost use Rattle.words.specs.Word.{bit};
 ghost use Rattle.sheet.specs.Refusal as Number;
-ghost use Rattle.model.specs.Model as Model;
-ghost use Rattle.model.specs.Model.{Meaning, line_refusal};
+ghost use Rattle.sheet.specs.Told.{fault_number};
+ghost use Rattle.model.specs.Model.{Meaning};
 ghost use Rattle.session.specs.Sound.{standing_of, Shaped};
+ghost use Rattle.session.specs.Line.{refusal_of};
 ghost use Rattle.model.specs.Causes.{Opens, enter_cause};
 
 use crate::Session;
-use sheet::refusal;
-use words::w64;
-
-// The kinds of a line.
-pub const ENTER: u8 = 0x10;
-
-pub const TAKE_BACK: u8 = 0x11;
-
-pub const READ: u8 = 0x12;
-
-pub const ASK: u8 = 0x13;
-
-pub const WHY: u8 = 0x14;
+use crate::script::Line;
+use sheet::refusal::Fault;
+use words::Word;
 
 // The desks that may enter are 0 to this one.
 const LAST_DESK: u8 = 7;
 
-// How many of the bytes A B C a kind uses.
-fn used(k: u8) -> u8
-    ensures { result ≡ Model.used k }
-{
-    if k == ENTER {
-        return 3;
-    }
-    if k == READ {
-        return 1;
-    }
-    0
-}
-
-// Whether the kind is none of the five, or a spare byte is not 0.
-fn unknown(k: u8, a: u8, b: u8, c: u8) -> bool
-    ensures { result ≡ Model.unknown k a b c }
-{
-    if k < ENTER {
-        return true;
-    }
-    if k > WHY {
-        return true;
-    }
-    sheet::spare_set(used(k), a as u16, b as u16, c as u16)
-}
-
 // Whether the word has the variable; one past the last place it has not.
-fn has(word: u64, variable: u8) -> bool
+fn has_variable(word: u64, variable: u8) -> bool
     ensures { result ≡ bit word variable }
 {
     if variable < 64 {
-        return w64::has(word, variable);
+        return word.has(variable);
     }
     false
 }
 
-// Why an ENTER is refused, or 0.
-fn enter_cause(free: u64, mask: u64, a: u8, b: u8, c: u8) -> u8
-    ensures { result ≡ enter_cause free mask a b c }
+// Whether the variable may be entered at the value, by the desk: free are the variables that may, mask those that are.
+#[tactic(auto, unfolding(model::specs::Causes::enter_cause))]
+fn accept_enter(free: u64, mask: u64, variable: u8, value: u8, desk: u8) -> Result<(), Fault>
+    ensures { fault_number result ≡ enter_cause free mask variable value desk }
 {
-    if !has(free, a) {
-        return refusal::ENTER_NOT_FREE;
+    if !has_variable(free, variable) {
+        return Err(Fault::EnterNotFree);
     }
-    if b > 1 {
-        return refusal::ENTER_VALUE;
+    if value > 1 {
+        return Err(Fault::EnterValue);
     }
-    if c > LAST_DESK {
-        return refusal::ENTER_DESK;
+    if desk > LAST_DESK {
+        return Err(Fault::EnterDesk);
     }
-    if has(mask, a) {
-        return refusal::ENTERED_TWICE;
+    if has_variable(mask, variable) {
+        return Err(Fault::EnteredTwice);
     }
-    0
+    Ok(())
 }
 
-// Why a TAKE BACK is refused where n entries stand, or 0.
-fn take_back_cause(n: usize) -> u8
-    ensures { result ≡ cond (eqb n 0) Number.nothing_entered 0 }
+// Whether there is a latest entry to take back, where so many stand.
+fn accept_take_back(standing: usize) -> Result<(), Fault>
+    ensures { fault_number result ≡ cond (eqb standing 0) Number.nothing_entered 0 }
 {
-    if n == 0 {
-        return refusal::NOTHING_ENTERED;
+    if standing == 0 {
+        return Err(Fault::NothingEntered);
     }
-    0
+    Ok(())
 }
 
-// Why a READ is refused where n entries stand, or 0.
-fn read_cause(n: usize, a: u8) -> u8
-    ensures { result ≡ cond (leb n a) Number.no_entry_there 0 }
+// Whether an entry is at the place, where so many stand.
+fn accept_read(standing: usize, place: u8) -> Result<(), Fault>
+    ensures { fault_number result ≡ cond (leb standing place) Number.no_entry_there 0 }
 {
-    if n <= a as usize {
-        return refusal::NO_ENTRY_THERE;
+    if standing <= usize::from(place) {
+        return Err(Fault::NoEntryThere);
     }
-    0
+    Ok(())
 }
 
-// The number by which a line is refused, or 0; free are the variables that may be entered.
-pub fn line_cause(session: Session, free: u64, k: u8, a: u8, b: u8, c: u8) -> u8
+// Whether the session takes the line; free are the variables that may be entered.
+pub fn accept(session: Session, free: u64, line: Line) -> Result<(), Fault>
     requires { Shaped session }
-    ensures { (m : Meaning) → Opens m free → result ≡ line_refusal m (standing_of session) k a b c }
+    ensures { (m : Meaning) → Opens m free → fault_number result ≡ refusal_of m (standing_of session) line }
 {
-    if unknown(k, a, b, c) {
-        return refusal::LINE_UNKNOWN;
+    match line {
+        Line::Enter {
+            variable,
+            value,
+            desk,
+        } => accept_enter(free, session.entered.mask, variable, value, desk),
+        Line::TakeBack => accept_take_back(session.len),
+        Line::Read { place } => accept_read(session.len, place),
+        Line::Ask | Line::Why => Ok(()),
     }
-    if k == ENTER {
-        return enter_cause(free, session.entered.mask, a, b, c);
-    }
-    if k == TAKE_BACK {
-        return take_back_cause(session.len);
-    }
-    if k == READ {
-        return read_cause(session.len, a);
-    }
-    0
 }

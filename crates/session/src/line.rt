@@ -1,46 +1,31 @@
 // One script line by value.
 ghost use Rattle.std.specs.Prelude.{◌≡◌, [], ◌∷◌, ◌++◌, ◌+◌, ◌-◌, ◌<◌, length, take};
 ghost use Rattle.sheet.specs.Fields.{Sheet};
+ghost use Rattle.sheet.specs.Told.{fault_number};
 ghost use Rattle.net.specs.Layout.{free_of};
-ghost use Rattle.model.specs.Model.{reply, refused, counted, told, judged};
+ghost use Rattle.model.specs.Model.{reply, counted, told, judged};
 ghost use Rattle.model.specs.Entries.{entry_at};
 ghost use Rattle.session.specs.Sound.{standing_of, Shaped, Fresh, OnNet};
-ghost use Rattle.session.specs.Step.{ask_of, why_of, PromisedFor, Tells, Replies, Recounted, Searches, Step};
+ghost use Rattle.session.specs.Line.{answer_of, session_after, v_told, word_told};
+ghost use Rattle.session.specs.Step.{ask_of, why_of, PromisedFor, Tells, Replies, Searches, Step};
 
-use crate::causes::{ASK, ENTER, READ, TAKE_BACK};
-use crate::{Answer, Entry, Session, Stepped, causes, entries};
-use records::Counts;
-
-// A line that is refused by that number: nothing changes.
-fn refuse(session: Session, number: u8) -> Stepped
-    requires { Shaped session }
-    ensures { Replies session (reply (refused number) (standing_of session)) result.session result.answer.number result.answer.v result.answer.word }
-{
-    let refusal = Answer {
-        number,
-        v: 0,
-        word: 0,
-    };
-    Stepped {
-        session,
-        answer: refusal,
-    }
-}
+use crate::script::{Line, LineBytes};
+use crate::{Answer, Entry, Session, Stepped, causes};
+use sheet::refusal::Fault;
 
 // An entry, as TAKE BACK and READ tell it.
 fn tell_entry(entry: Entry) -> Answer
-    ensures { Tells (told entry) result.number result.v result.word }
+    ensures { Tells (told entry) 0 result.v result.word }
 {
     Answer {
-        number: 0,
         v: entry.variable,
-        word: 256 * (entry.desk as u64) + entry.value as u64,
+        word: 256 * u64::from(entry.desk) + u64::from(entry.value),
     }
 }
 
 fn enter(session: Session, variable: u8, value: u8, desk: u8) -> Stepped
     requires { Shaped session × (session.len < 64) × Fresh session variable }
-    ensures { Replies session (reply (counted (length (standing_of session) + 1)) (standing_of session ++ (record { variable = variable; value = value; desk = desk } ∷ []))) result.session result.answer.number result.answer.v result.answer.word }
+    ensures { Replies session (reply (counted (length (standing_of session) + 1)) (standing_of session ++ (record { variable = variable; value = value; desk = desk } ∷ []))) result.session 0 result.answer.v result.answer.word }
 {
     let n = session.len + 1;
     let entry = Entry {
@@ -48,9 +33,8 @@ fn enter(session: Session, variable: u8, value: u8, desk: u8) -> Stepped
         value,
         desk,
     };
-    let longer = entries::append(session, entry);
+    let longer = session.append(entry);
     let answer = Answer {
-        number: 0,
         v: n as u8,
         word: 0,
     };
@@ -62,11 +46,11 @@ fn enter(session: Session, variable: u8, value: u8, desk: u8) -> Stepped
 
 fn take_back(session: Session) -> Stepped
     requires { Shaped session × (0 < session.len) }
-    ensures { Replies session (reply (told (entry_at (standing_of session) (length (standing_of session) - 1))) (take (length (standing_of session) - 1) (standing_of session))) result.session result.answer.number result.answer.v result.answer.word }
+    ensures { Replies session (reply (told (entry_at (standing_of session) (length (standing_of session) - 1))) (take (length (standing_of session) - 1) (standing_of session))) result.session 0 result.answer.v result.answer.word }
 {
     let last = session.len - 1;
-    let answer = tell_entry(entries::entry_at(session, last));
-    let shorter = entries::remove_last(session);
+    let answer = tell_entry(session.entry_at(last));
+    let shorter = session.remove_last();
     Stepped {
         session: shorter,
         answer,
@@ -75,57 +59,35 @@ fn take_back(session: Session) -> Stepped
 
 fn read(session: Session, place: u8) -> Stepped
     requires { Shaped session × (place < session.len) }
-    ensures { Replies session (reply (told (entry_at (standing_of session) place)) (standing_of session)) result.session result.answer.number result.answer.v result.answer.word }
+    ensures { Replies session (reply (told (entry_at (standing_of session) place)) (standing_of session)) result.session 0 result.answer.v result.answer.word }
 {
-    let i = place as usize;
-    let answer = tell_entry(entries::entry_at(session, i));
+    let answer = tell_entry(session.entry_at(usize::from(place)));
     Stepped { session, answer }
 }
 
 // A verdict, as ASK and WHY tell it.
 fn tell_verdict(holds: bool, word: u64) -> Answer
-    ensures { Tells (judged (record { holds = holds; word = word })) result.number result.v result.word }
+    ensures { Tells (judged (record { holds = holds; word = word })) 0 result.v result.word }
 {
-    if holds {
-        return Answer {
-            number: 0,
-            v: 1,
-            word,
-        };
-    }
     Answer {
-        number: 0,
-        v: 0,
+        v: u8::from(holds),
         word,
     }
-}
-
-// The same entries, with that many records counted.
-fn recount(session: Session, under: usize, over: usize) -> Session
-    ensures { Recounted session under over result }
-{
-    let mut next = session;
-    next.under = under;
-    next.over = over;
-    next
 }
 
 fn ask(session: Session, net: &mut [u64], under: &mut [u32], over: &mut [u32]) -> Stepped
     requires { (s : Sheet) × OnNet s net.old session under.old over.old }
     ensures net_unchanged { net.new ≡ net.old }
-    ensures searches { (s : Sheet) → OnNet s net.old session under.old over.old → Searches s session under.old over.old (ask_of s (standing_of session)) result.session under.new over.new result.answer.number result.answer.v result.answer.word × PromisedFor s (standing_of session) under.new result.session.under over.new result.session.over }
+    ensures searches { (s : Sheet) → OnNet s net.old session under.old over.old → Searches s session under.old over.old (ask_of s (standing_of session)) result.session under.new over.new 0 result.answer.v result.answer.word × PromisedFor s (standing_of session) under.new result.session.kept.under over.new result.session.kept.over }
 {
-    let kept = Counts {
-        under: session.under,
-        over: session.over,
-    };
     let entered = session.entered;
-    let asked = solver::ask(net, entered.mask, entered.values, under, over, kept);
-    let after = asked.kept;
-    let next = recount(session, after.under, after.over);
+    let asked = solver::ask(net, entered.mask, entered.values, under, over, session.kept);
     let answer = tell_verdict(asked.holds, asked.word);
     Stepped {
-        session: next,
+        session: Session {
+            kept: asked.kept,
+            ..session
+        },
         answer,
     }
 }
@@ -133,52 +95,42 @@ fn ask(session: Session, net: &mut [u64], under: &mut [u32], over: &mut [u32]) -
 fn why(session: Session, net: &mut [u64], under: &mut [u32], over: &mut [u32]) -> Stepped
     requires { (s : Sheet) × OnNet s net.old session under.old over.old }
     ensures net_unchanged { net.new ≡ net.old }
-    ensures searches { (s : Sheet) → OnNet s net.old session under.old over.old → Searches s session under.old over.old (why_of s (standing_of session)) result.session under.new over.new result.answer.number result.answer.v result.answer.word }
+    ensures searches { (s : Sheet) → OnNet s net.old session under.old over.old → Searches s session under.old over.old (why_of s (standing_of session)) result.session under.new over.new 0 result.answer.v result.answer.word }
 {
-    let kept = Counts {
-        under: session.under,
-        over: session.over,
-    };
     let entered = session.entered;
-    let found = solver::why(net, entered.mask, entered.values, under, over, kept);
-    let after = found.kept;
-    let next = recount(session, after.under, after.over);
+    let found = solver::why(net, entered.mask, entered.values, under, over, session.kept);
     let answer = tell_verdict(found.holds, found.word);
     Stepped {
-        session: next,
+        session: Session {
+            kept: found.kept,
+            ..session
+        },
         answer,
     }
 }
 
-// A line with kind k and bytes a, b, c.
+// A line by its bytes. Where it is refused, the session stays as it is.
 pub fn step(
     session: Session,
-    k: u8,
-    a: u8,
-    b: u8,
-    c: u8,
+    bytes: LineBytes,
     net: &mut [u64],
     under: &mut [u32],
     over: &mut [u32],
-) -> Stepped
+) -> Result<Stepped, Fault>
     requires { (s : Sheet) × OnNet s net.old session under.old over.old }
-    ensures { (net.new ≡ net.old) × ((s : Sheet) → OnNet s net.old session under.old over.old → Step s (free_of net.old) session under.old over.old k a b c result.session under.new over.new result.answer.number result.answer.v result.answer.word) }
+    ensures { (net.new ≡ net.old) × ((s : Sheet) → OnNet s net.old session under.old over.old → Step s (free_of net.old) session under.old over.old bytes.k bytes.a bytes.b bytes.c (session_after session result) under.new over.new (fault_number (answer_of result)) (v_told (answer_of result)) (word_told (answer_of result))) }
 {
-    let number = causes::line_cause(session, net::free(&net[..]), k, a, b, c);
-    if number != 0 {
-        return refuse(session, number);
+    let line = bytes.line()?;
+    causes::accept(session, net::free(&net[..]), line)?;
+    match line {
+        Line::Enter {
+            variable,
+            value,
+            desk,
+        } => Ok(enter(session, variable, value, desk)),
+        Line::TakeBack => Ok(take_back(session)),
+        Line::Read { place } => Ok(read(session, place)),
+        Line::Ask => Ok(ask(session, net, under, over)),
+        Line::Why => Ok(why(session, net, under, over)),
     }
-    if k == ENTER {
-        return enter(session, a, b, c);
-    }
-    if k == TAKE_BACK {
-        return take_back(session);
-    }
-    if k == READ {
-        return read(session, a);
-    }
-    if k == ASK {
-        return ask(session, net, under, over);
-    }
-    why(session, net, under, over)
 }

@@ -9,7 +9,7 @@ use borrow.Author.Tests.{eq-eqb, eqb-true}
 use Rattle.words.specs.Logic.{tests}
 use Rattle.words.proofs.Logic.{by_bool, clash}
 use Rattle.words.specs.Word.{bit}
-use Rattle.words.proofs.Word.{bit-and, bit-none, bit-pow, bit_high, ext}
+use Rattle.words.proofs.Bits.{bit-and, bit-none, bit-pow, bit_high, ext}
 use Rattle.words.specs.Mask.{without, range_mask}
 use Rattle.words.proofs.Mask.{bit-range_mask, range-lt}
 use Rattle.formula.specs.Assignment.{within}
@@ -56,15 +56,6 @@ module _ {cs : List Cause} {s : Sheet} {n p f g : ℕ} (c : Checks cs s n p f g)
 
   pub checks_ungauged : (n ≡ 0 → ⊥) → g ≡ 0
   checks_ungauged z = c.gauges_are ∙ rw (checks_some z)
-
--- the same of an answer that has these parts
-pub same_checks : (cs : List Cause) (s : Sheet) (n p f g n' p' f' g' : ℕ) → (n' ≡ n) × (p' ≡ p) × (f' ≡ f) × (g' ≡ g) → Checks cs s n p f g → Checks cs s n' p' f' g'
-same_checks cs s n p f g n' p' f' g' e c = record {
-  number_is = e.0 ∙ c.number_is;
-  place_is = e.1 ∙ c.place_is;
-  free-is = e.2 ∙ c.free-is;
-  gauges_are = e.3 ∙ c.gauges_are;
-}
 
 bit-range : (b c v : ℕ) → bit (range_mask b c) v ≡ within b c v
 unfolding within

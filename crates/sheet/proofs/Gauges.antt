@@ -4,7 +4,7 @@ use Rattle.std.proofs.Common.{sym, ◌∙◌, inr, lt-ltb}
 use Rattle.std.proofs.Math.Bool.{and-false}
 use Rattle.words.proofs.Logic.{by_bool, and_both}
 use Rattle.words.specs.Word.{bit}
-use Rattle.words.proofs.Word.{bit-none, ext}
+use Rattle.words.proofs.Bits.{bit-none, ext}
 use Rattle.words.proofs.Mask.{mask_of-lt, bit-mask_of}
 use Rattle.sheet.specs.Fields.{Sheet, frames, variables, kind}
 use Rattle.sheet.specs.Rules.{bad_variables, names_gauge, some_before, gauges}

@@ -1,9 +1,10 @@
 pub mod FieldsLaws
 pub mod Frames
 pub mod ReaderLaws
+pub mod ToldLaws
 pub mod Cause
 pub mod RuleLaws
-pub mod Accepted
+pub mod AcceptedLaws
 pub mod Gauges
 pub mod CheckLaws
 pub mod PassLaws

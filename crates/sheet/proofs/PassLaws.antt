@@ -1,7 +1,7 @@
 -- One pass over the frames: what holds before frame k, how it comes to hold before the next, and what the check answers. Assumes nothing.
 use Prim.Native.Nat.{ℕ, zero, suc, ◌+◌, ◌-◌, ◌^◌, ◌≤◌, ◌<◌}
 use Rattle.std.proofs.Common.{add-one, arith, ◌∙◌, subst, get_or-set_other}
-use Rattle.std.specs.Prelude.{◌≡◌, refl, Bool, false, ◌||◌, length, get_or, set, eqb, ltb}
+use Rattle.std.specs.Prelude.{◌≡◌, refl, Bool, false, ◌||◌, length, get_or, set, eqb}
 use Rattle.std.proofs.Math.Path.{sym, ap}
 use Rattle.std.proofs.Math.Bool.{true, or-false}
 use mathlib.Core.List.{List, [], ◌∷◌}
@@ -10,13 +10,12 @@ use Rattle.std.proofs.Math.Seq.{get_or-set_same}
 use Rattle.words.specs.Logic.{tests}
 use Rattle.words.proofs.Logic.{by_bool, clash, or_left, or_right}
 use Rattle.words.specs.Word.{bit}
-use Rattle.words.proofs.Word.{bit-or, bit-none, ext}
+use Rattle.words.proofs.Bits.{bit-or, bit-none, ext}
 use Rattle.formula.specs.Formula.{free}
 use Rattle.formula.specs.Ask.{free_mask}
 use Rattle.formula.proofs.Ask.{free_mask-lt, bit-free}
 use Rattle.sheet.specs.Cause.{Cause, Refusal, first, some_holds}
 use Rattle.sheet.proofs.Cause.{some_append, first-later, first_earlier, first-none, none_first}
-use Rattle.form.specs.Form as Sizes
 use Rattle.form.proofs.FormLaws.{few-variables}
 use Rattle.sheet.specs.Fields.{Sheet, frames, most_frames, variables, kind}
 use Rattle.sheet.specs.Frames.{formula, Fit}
@@ -28,25 +27,26 @@ use Rattle.sheet.specs.declared.Kind.{Kind}
 use Rattle.sheet.specs.declared.rules.Seen.{Seen}
 use Rattle.sheet.specs.RuleLaws.{CleanAt}
 use Rattle.sheet.proofs.RuleLaws.{none-clean, clean-below, below-ordered, field_numbered, size_numbered}
-use Rattle.sheet.proofs.Accepted.{clean-ordered, ordered-bounded}
+use Rattle.sheet.proofs.AcceptedLaws.{clean-ordered, ordered-bounded}
 use Rattle.sheet.proofs.Gauges.{gauges-all}
-use Rattle.sheet.specs.Check.{Checks, past_by, none_seen, seen_after, free_word}
+use Rattle.sheet.specs.Check.{Checks, past_by, seen_after, free_word}
 use Rattle.sheet.proofs.CheckLaws.{bit-bound_mask, bit-input_mask, bit-gauge_mask, freeWord-is, meet-same}
-use Rattle.sheet.specs.Pass.{Passed, RootChecks, Scanning}
+use Rattle.sheet.specs.Pass.{Passed, RootChecks}
 
-pub passed_none : (s : Sheet) (words : List ℕ) → frames s ≤ most_frames s → most_frames s ≤ length words → Passed s words none_seen 0
+pub passed_none : (s : Sheet) (words : List ℕ) (seen : Seen) (k : ℕ) → frames s ≤ most_frames s → most_frames s ≤ length words
+    → k ≡ 0 → (seen.bound ≡ 0) × ((seen.inputs ≡ 0) × (seen.gauges ≡ 0)) → Passed s words seen k
 unfolding some_before
-passed_none s words m l =
-    record {
+passed_none s words seen k m l e z =
+    rw e (record {
       most = m;
       room = l;
       within = omega arith;
       clean = λ j h. absurd (omega arith);
       frees = λ a h. absurd (omega arith);
-      bounds = λ v. bit-none v;
-      inputs = λ v. bit-none v;
-      gauges = λ v. bit-none v;
-    }
+      bounds = λ v. rw z.0 (bit-none v);
+      inputs = λ v. rw z.1.0 (bit-none v);
+      gauges = λ v. rw z.1.1 (bit-none v);
+    })
 
 module _ (s : Sheet) (words : List ℕ) (seen : Seen) (k : ℕ) (P : Passed s words seen k) (h : k < frames s) where
   past_same : past_by seen ≡ past_of (kind s) k
@@ -92,10 +92,6 @@ module _ (s : Sheet) (words : List ℕ) (seen : Seen) (k : ℕ) (P : Passed s wo
 -- a word of the table is one of the form's
 pub passed_small : (s : Sheet) (words : List ℕ) (seen : Seen) (k a : ℕ) → Passed s words seen k → a < k → get_or words a 0 < 2 ^ variables s
 passed_small s words seen k a P l = rw (P.frees a l) (free_mask-lt (variables s) (formula s a))
-
--- the same of a form that the code has worked out
-pub small_of : {F : Form} (s : Sheet) (words : List ℕ) (seen : Seen) (k a : ℕ) → Passed s words seen k → a < k → F ≡ s.form → get_or words a 0 < 2 ^ Sizes.variables F
-small_of s words seen k a P l e = rw e (passed_small s words seen k a P l)
 
 -- the same of a kind, and of words that the code has worked out
 module _ (s : Sheet) (words : List ℕ) (seen : Seen) (k : ℕ) (P : Passed s words seen k) (h : k < frames s) (g : CleanAt s k) (d : Kind) (e : d ≡ kind s k) where
@@ -214,26 +210,6 @@ module _ (s : Sheet) (words : List ℕ) (seen : Seen) (P : Passed s words seen (
   root_read F m i e n p f g r =
       root_checks n p f g (subst (λ (k : ℕ). RootChecks s.form (get_or words (k - 1) 0) seen (k - 1) n p f g) e
       (subst (λ (G : Form). RootChecks G (get_or words (m - 1) 0) seen (m - 1) n p f g) i r))
-
-pub scan_starts : (s : Sheet) (words : List ℕ) → frames s ≤ most_frames s → 0 < frames s → most_frames s ≤ length words → Scanning s words 0 true none_seen 0 0
-scan_starts s words m h l = record { going = λ _. (passed_none s words m l, h); ended = λ t. clash true refl t }
-
-pub scan_refuses : (s : Sheet) (words : List ℕ) (seen : Seen) (k : ℕ) → Passed s words seen k → k < frames s
-    → (n : ℕ) → n ≡ (first (causes_of s k (past_by seen))).number → (n ≡ 0 → ⊥) → Scanning s words (k + 1) false seen n k
-scan_refuses s words seen k P h n e z = record {
-  going = λ t. clash false t refl;
-  ended = λ _. record { refused = λ _. fault_checks s words seen k P h n e z; passed = λ w. absurd (z w) };
-}
-
--- n is the count of frames, as the code has worked it out
-pub scan_passes : (s : Sheet) (words : List ℕ) (seen : Seen) (k : ℕ) → Passed s words seen k → (n : ℕ) → n ≡ frames s → Scanning s words k (ltb k n) seen 0 0
-scan_passes s words seen k P n e = record {
-  going = λ t. (P, omega (tests, t, e));
-  ended = λ t. record {
-    refused = λ z. absurd (z refl);
-    passed = λ _. let h : k ≡ frames s = omega (tests, t, e, P.within) in subst (Passed s words seen) h P;
-  };
-}
 
 -- ---- the size first, then the frames
 

@@ -9,7 +9,7 @@ use Rattle.sheet.specs.Cause.{Cause, first, some_holds}
 use Rattle.sheet.proofs.Cause.{first_earlier, first-later}
 use Rattle.sheet.specs.Fields.{Sheet, frames, most_frames}
 use Rattle.sheet.specs.Rules.{Past, length_causes, size_causes, field_causes, causes_below, root_causes, frame_causes, sheet_refusal}
-use Rattle.sheet.proofs.Accepted.{none_sized}
+use Rattle.sheet.proofs.AcceptedLaws.{none_sized}
 use Rattle.sheet.specs.declared.Fields.{Fields}
 use Rattle.sheet.specs.Places.{Small, Within}
 

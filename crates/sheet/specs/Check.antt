@@ -61,9 +61,6 @@ gauge_mask (Gauge x) = 2 ^ x
 abbrev pub past_by : Seen → Past
 past_by w = record { bound = bit w.bound; inputs = bit w.inputs; gauges = bit w.gauges }
 
-abbrev pub none_seen : Seen
-none_seen = record { bound = 0; inputs = 0; gauges = 0 }
-
 -- behind a frame of kind d
 abbrev pub seen_after : Seen → Kind → Seen
 seen_after w d = record { bound = bit_or w.bound (bound_mask d); inputs = bit_or w.inputs (input_mask d); gauges = bit_or w.gauges (gauge_mask d) }

@@ -1,5 +1,5 @@
--- Document 01's rules for a sheet, with document 02's for gauges, one field a sentence, in no order, with the sizes of its form. Accepted.antt: a sheet is
--- accepted exactly if it keeps them. Assumes nothing.
+-- Document 01's rules for a sheet, with document 02's for gauges, one field a sentence, in no order, with the sizes of its form. proofs/AcceptedLaws.antt: a
+-- sheet is accepted exactly if it keeps them. Assumes nothing.
 use Rattle.std.specs.Prelude.{ℕ, ◌+◌, ◌≤◌, ◌<◌, ◌≡◌, true, false, ◌⊎◌, length}
 use mathlib.Core.List.{Memᴰ}
 use Rattle.form.specs.Form as Sizes

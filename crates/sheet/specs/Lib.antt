@@ -2,6 +2,7 @@ pub mod Fields
 pub mod Frames
 pub mod Reader
 pub mod Refusal
+pub mod Told
 pub mod Cause
 pub mod Rules
 pub mod Keeps

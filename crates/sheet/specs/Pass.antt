@@ -1,7 +1,6 @@
 -- One pass over the frames: what holds before frame k, how it comes to hold before the next, and what the check answers. Assumes nothing.
 use Prim.Native.Nat.{ℕ, ◌≤◌, ◌<◌}
-use Rattle.std.specs.Prelude.{◌≡◌, Bool, false, cond, length}
-use Rattle.std.proofs.Math.Bool.{true}
+use Rattle.std.specs.Prelude.{◌≡◌, cond, length, Result, Ok, Err}
 use mathlib.Core.List.{List}
 use Rattle.words.specs.Word.{bit}
 use Rattle.sheet.specs.Refusal as Number
@@ -12,6 +11,8 @@ use Rattle.form.specs.declared.Form.{Form}
 use Rattle.sheet.specs.declared.rules.Seen.{Seen}
 use Rattle.sheet.specs.RuleLaws.{CleanAt}
 use Rattle.sheet.specs.Check.{Checks, FreeBelow}
+use Rattle.sheet.specs.Told.{number_of}
+use Rattle.sheet.specs.declared.refusal.Refused.{Refused}
 
 -- before frame k: no cause holds below it, and the words of free variables and of what earlier frames did are right
 pub record Passed (s : Sheet) (words : List ℕ) (seen : Seen) (k : ℕ) : Type 0 where
@@ -31,14 +32,7 @@ pub record RootChecks (F : Form) (word : ℕ) (seen : Seen) (place number at fre
   pub free-is : free ≡ cond (meet F (bit seen.bound) (bit word)) 0 word
   pub gauges_are : gauges ≡ cond (meet F (bit seen.bound) (bit word)) 0 seen.gauges
 
--- ---- the pass, frame by frame
-
--- where it ends: a frame is refused, or all are passed
-pub record Scanned (s : Sheet) (words : List ℕ) (seen : Seen) (fault place : ℕ) : Type 0 where
-  pub refused : (fault ≡ 0 → ⊥) → Checks (frame_causes s) s fault place 0 0
-  pub passed : fault ≡ 0 → Passed s words seen (frames s)
-
--- a reader stands at frame k: that frame is judged next, or the pass has ended
-pub record Scanning (s : Sheet) (words : List ℕ) (k : ℕ) (more : Bool) (seen : Seen) (fault place : ℕ) : Type 0 where
-  pub going : more ≡ true → Passed s words seen k × (k < frames s)
-  pub ended : more ≡ false → Scanned s words seen fault place
+-- where the pass stands behind the frames below k: one of them is refused, or all are passed
+abbrev pub Scanned : Sheet → List ℕ → ℕ → Result Seen Refused → Type 0
+Scanned s words k (Ok seen) = Passed s words seen k
+Scanned s words k (Err r) = Checks (frame_causes s) s (number_of r.fault) r.place 0 0

@@ -1,38 +1,19 @@
 // The fields of a frame: the only place that knows its bytes.
 ghost use Rattle.std.specs.Prelude.{◌≡◌, ◌+◌, ◌*◌};
-ghost use Rattle.sheet.specs.Fields as Sheets;
 ghost use Rattle.sheet.specs.Fields.{sheet_of, fields_at};
 
 use crate::Fields;
 use form::Form;
 
-// A byte as a field.
-fn field(x: u8) -> u16
-    ensures { result ≡ x }
-{
-    x as u16
-}
-
 // Two bytes, the highest first.
 fn pair(high: u8, low: u8) -> u16
     ensures { result ≡ high * 256 + low }
 {
-    field(high) * 256 + field(low)
+    u16::from_be_bytes([high, low])
 }
 
-// Past the last whole frame.
-fn none() -> Fields
-    ensures { result ≡ Sheets.no_fields }
-{
-    Fields {
-        k: 0,
-        a: 0,
-        b: 0,
-        c: 0,
-    }
-}
-
-// Of a frame of four bytes.
+// Of a frame of four bytes. Not one function with the next: a wide field is two bytes, and with a size that is no literal a proof would multiply two unknowns.
+#[tactic(auto, unfolding(crate::specs::Fields::fields_at))]
 fn narrow_at(bytes: &[u8], number: usize) -> Fields
     ensures { result ≡ fields_at (sheet_of Form.Narrow bytes.now) number }
 {
@@ -40,15 +21,16 @@ fn narrow_at(bytes: &[u8], number: usize) -> Fields
         let at = number * 4;
         return Fields {
             k: bytes[at],
-            a: field(bytes[at + 1]),
-            b: field(bytes[at + 2]),
-            c: field(bytes[at + 3]),
+            a: u16::from(bytes[at + 1]),
+            b: u16::from(bytes[at + 2]),
+            c: u16::from(bytes[at + 3]),
         };
     }
-    none()
+    Fields::default()
 }
 
 // Of a frame of seven bytes.
+#[tactic(auto, unfolding(crate::specs::Fields::fields_at))]
 fn wide_at(bytes: &[u8], number: usize) -> Fields
     ensures { result ≡ fields_at (sheet_of Form.Wide bytes.now) number }
 {
@@ -61,7 +43,7 @@ fn wide_at(bytes: &[u8], number: usize) -> Fields
             c: pair(bytes[at + 5], bytes[at + 6]),
         };
     }
-    none()
+    Fields::default()
 }
 
 // The fields of the frame of that number; past the last whole frame all are 0.

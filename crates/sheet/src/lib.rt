@@ -2,6 +2,7 @@
 #![tactic(auto)]
 
 mod layout;
+mod ranged;
 pub mod reader;
 pub mod refusal;
 mod rules;
@@ -12,11 +13,12 @@ ghost use Rattle.sheet.specs.Fields.{sheet_of, kind_of, kind};
 
 use form::Form;
 use layout::fields_at;
-pub use rules::{range_word, size_fault, spare_set};
-pub use scan::{Checked, check, check_frames, check_wide};
+pub use ranged::range_word;
+pub use rules::{check_size, spare_set};
+pub use scan::{Accepted, check, check_frames};
 
-// K and A B C of a frame.
-#[derive(Clone, Copy)]
+// K and A B C of a frame; past the last whole frame all are 0.
+#[derive(Clone, Copy, PartialEq, Eq, Default)]
 pub struct Fields {
     pub k: u8,
     pub a: u16,
@@ -25,7 +27,7 @@ pub struct Fields {
 }
 
 // What a frame says. A named frame is a number below the frame's own; a range of variables is its first and how many.
-#[derive(Clone, Copy)]
+#[derive(Clone, Copy, PartialEq, Eq)]
 pub enum Kind {
     Never,
     Input(u16),
@@ -38,13 +40,14 @@ pub enum Kind {
     Gauge(u16),
 }
 
-#[derive(Clone, Copy)]
+#[derive(Clone, Copy, PartialEq, Eq)]
 pub struct Frame {
     pub number: usize,
     pub kind: Kind,
 }
 
 // The kind that a frame's fields say; a code above 7 gives `Never`.
+#[tactic(auto, unfolding(crate::specs::Fields::kind_of))]
 fn kind_of(f: Fields) -> Kind
     ensures { result ≡ kind_of f }
 {

@@ -1,50 +1,57 @@
-// The numbers of all causes of a refusal, once for the whole library; specs/Refusal.antt has the same for contracts.
-pub const TEXT_SHAPE: u8 = 1;
+// Why something is refused: all causes, once for the whole library.
+ghost use Rattle.std.specs.Prelude.{◌≡◌};
+ghost use Rattle.sheet.specs.Told.{number_of};
 
-pub const NOT_WHOLE: u8 = 2;
+// A fault's number is the one that callers are told, as specs/Refusal.antt has it.
+#[derive(Clone, Copy, PartialEq, Eq)]
+pub enum Fault {
+    TextShape = 1,
+    NotWhole = 2,
+    SheetTooLong = 3,
+    ScriptTooLong = 4,
+    NoRoom = 5,
+    KindUnknown = 6,
+    SpareUsed = 7,
+    NotEarlier = 8,
+    RangeBroken = 9,
+    BoundTwice = 10,
+    BoundFree = 11,
+    LineUnknown = 12,
+    EnterNotFree = 13,
+    EnterValue = 14,
+    EnteredTwice = 15,
+    NothingEntered = 16,
+    NoEntryThere = 17,
+    QuestionBroken = 18,
+    QuestionTooLarge = 19,
+    InputAndGauge = 22,
+    GaugeBound = 23,
+    EnterDesk = 24,
+    NormalNoRoom = 25,
+    OtherForm = 29,
+    WideNoRoom = 31,
+}
 
-pub const SHEET_TOO_LONG: u8 = 3;
+impl Fault {
+    pub fn number(self) -> u8
+        ensures { result ≡ number_of self }
+    {
+        self as u8
+    }
+}
 
-pub const SCRIPT_TOO_LONG: u8 = 4;
+// A refusal: its fault, and the frame that it is told at.
+#[derive(Clone, Copy, PartialEq, Eq)]
+pub struct Refused {
+    pub fault: Fault,
+    pub place: u16,
+}
 
-pub const NO_ROOM: u8 = 5;
+// A fault of no frame is told at place 0.
+impl From<Fault> for Refused {
+    ghost from_gives = { λ fault refused. (refused.fault ≡ fault) × (refused.place ≡ 0) };
 
-pub const KIND_UNKNOWN: u8 = 6;
-
-pub const SPARE_USED: u8 = 7;
-
-pub const NOT_EARLIER: u8 = 8;
-
-pub const RANGE_BROKEN: u8 = 9;
-
-pub const BOUND_TWICE: u8 = 10;
-
-pub const BOUND_FREE: u8 = 11;
-
-pub const LINE_UNKNOWN: u8 = 12;
-
-pub const ENTER_NOT_FREE: u8 = 13;
-
-pub const ENTER_VALUE: u8 = 14;
-
-pub const ENTERED_TWICE: u8 = 15;
-
-pub const NOTHING_ENTERED: u8 = 16;
-
-pub const NO_ENTRY_THERE: u8 = 17;
-
-pub const QUESTION_BROKEN: u8 = 18;
-
-pub const QUESTION_TOO_LARGE: u8 = 19;
-
-pub const INPUT_AND_GAUGE: u8 = 22;
-
-pub const GAUGE_BOUND: u8 = 23;
-
-pub const ENTER_DESK: u8 = 24;
-
-pub const NORMAL_NO_ROOM: u8 = 25;
-
-pub const OTHER_FORM: u8 = 29;
-
-pub const WIDE_NO_ROOM: u8 = 31;
+    fn from(fault: Fault) -> Refused {
+        Refused { fault, place: 0 }
+    }
+}

@@ -1,25 +1,25 @@
 // One pass over a sheet: whether it keeps document 01's rules, and document 02's for gauges, and if not, the first cause in their order that holds.
 ghost use Rattle.std.specs.Prelude.{◌≡◌, false, ◌+◌, ◌^◌, ◌<◌, ◌≤◌, length, get_or, set};
 ghost use Rattle.form.specs.Form as Sizes;
-ghost use Rattle.form.specs.Form.{form_of};
 ghost use Rattle.sheet.specs.Cause.{some_holds};
 ghost use Rattle.sheet.specs.Fields.{sheet_of, frames, kind};
 ghost use Rattle.sheet.specs.Frames.{Fit};
-ghost use Rattle.sheet.specs.Rules as Rules;
 ghost use Rattle.sheet.specs.Rules.{size_causes, frame_causes, sheet_causes};
 ghost use Rattle.sheet.specs.Check.{free_word, seen_after, Checks};
-ghost use Rattle.sheet.specs.Pass.{Passed, RootChecks, Scanning, Scanned};
+ghost use Rattle.sheet.specs.Pass.{Passed, RootChecks, Scanned};
+ghost use Rattle.sheet.specs.Told.{refused_number, refused_place, free_told, gauges_told};
 
-use crate::rules::{Seen, fault_at, input_word, range_word, seen_after, size_fault};
-use crate::{Frame, Kind, reader, refusal};
+use crate::ranged::{Ranged, input_word, range_word};
+use crate::reader::Reader;
+use crate::refusal::{Fault, Refused};
+use crate::rules::{Seen, check_frame, check_size};
+use crate::{Frame, Kind};
 use form::Form;
-use words::w64;
+use words::Word;
 
-// The refusal's number and place, 0 and 0 for none; for none also the free variables of the last frame, and the variables that are gauges.
+// Of a sheet that is accepted: the free variables of its last frame, and the variables that are gauges.
 #[derive(Clone, Copy)]
-pub struct Checked {
-    pub number: u8,
-    pub place: u16,
+pub struct Accepted {
     pub free: u64,
     pub gauges: u64,
 }
@@ -29,194 +29,114 @@ fn word_at(free: &[u64], number: u16) -> u64
     requires { number < length free.now }
     ensures { result ≡ get_or free.now number 0 }
 {
-    let i = number as usize;
-    free[i]
+    free[usize::from(number)]
 }
 
 // The free variables of a frame of this kind, from those of the frames before it.
+#[tactic(auto, unfolding(crate::specs::Check::free_word))]
 fn free_word(kind: Kind, free: &[u64]) -> u64
     requires { Fit 64 (length free.now) kind }
     ensures { result ≡ free_word free.now kind }
 {
     match kind {
         Kind::Never => 0,
-        Kind::Input(x) => input_word(x),
+        Kind::Input(x) | Kind::Gauge(x) => input_word(x),
         Kind::Not(x) => word_at(free, x),
-        Kind::And(x, y) => word_at(free, x) | word_at(free, y),
-        Kind::Or(x, y) => word_at(free, x) | word_at(free, y),
-        Kind::Exists(x, b, c) => w64::without(word_at(free, x), range_word(b, c)),
-        Kind::Forall(x, b, c) => w64::without(word_at(free, x), range_word(b, c)),
-        Kind::Gauge(x) => input_word(x),
+        Kind::And(x, y) | Kind::Or(x, y) => word_at(free, x) | word_at(free, y),
+        Kind::Exists(x, b, c) | Kind::Forall(x, b, c) => word_at(free, x).without(range_word(b, c)),
     }
 }
 
 // A frame at which no cause holds: its free variables go into the table, and what is seen so far is given back.
-fn pass(frame: Frame, form: Form, words: &mut [u64], seen: Seen) -> Seen
-    requires { (frame.number < length words.old) × Fit 64 (length words.old) frame.kind × (Rules.bad_variables form frame.kind ≡ false) }
-    ensures { (words.new ≡ set words.old frame.number (free_word words.old frame.kind)) × (result ≡ seen_after seen frame.kind) }
+fn pass(number: usize, ranged: Ranged, words: &mut [u64], seen: Seen) -> Seen
+    requires { (number < length words.old) × Fit 64 (length words.old) ranged.kind }
+    ensures { (words.new ≡ set words.old number (free_word words.old ranged.kind)) × (result ≡ seen_after seen ranged.kind) }
 {
-    let k = frame.number;
-    let kind = frame.kind;
-    let word = free_word(kind, &words[..]);
-    words[k] = word;
-    seen_after(form, kind, seen)
-}
-
-// A pass over the frames: whether the sheet is wide, whether a frame is left to judge, what is seen so far, and the refusal's number and place,
-// 0 and 0 for none. Where it stands is the reader's to know.
-#[derive(Clone, Copy)]
-struct Scan {
-    wide: bool,
-    more: bool,
-    seen: Seen,
-    fault: u8,
-    place: u16,
+    words[number] = free_word(ranged.kind, words);
+    ranged.seen_after(seen)
 }
 
 // One turn of the pass, over the frame that the reader gave: it is refused, or its words are kept.
-fn visit(sheet: &[u8], words: &mut [u64], scan: Scan, frame: Frame) -> Scan
-    requires { Passed (sheet_of (form_of scan.wide) sheet.now) words.old scan.seen frame.number × (frame.number < frames (sheet_of (form_of scan.wide) sheet.now)) × (frame.kind ≡ kind (sheet_of (form_of scan.wide) sheet.now) frame.number) }
-    ensures { Scanning (sheet_of (form_of scan.wide) sheet.now) words.new (frame.number + 1) result.more result.seen result.fault result.place × (result.wide ≡ scan.wide) }
+fn visit(
+    sheet: &[u8],
+    form: Form,
+    words: &mut [u64],
+    frame: Frame,
+    seen: Seen,
+) -> Result<Seen, Refused>
+    requires { Passed (sheet_of form sheet.now) words.old seen frame.number × (frame.number < frames (sheet_of form sheet.now)) × (frame.kind ≡ kind (sheet_of form sheet.now) frame.number) }
+    ensures { Scanned (sheet_of form sheet.now) words.new (frame.number + 1) result }
 {
-    let form = form::of(scan.wide);
-    let seen = scan.seen;
-    let fault = fault_at(sheet, form, frame.number, seen);
-    if fault != 0 {
-        return Scan {
-            wide: scan.wide,
-            more: false,
-            seen,
+    match check_frame(sheet, form, frame.number, seen) {
+        Ok(()) => {
+            let ranged = Ranged {
+                form,
+                kind: frame.kind,
+            };
+            Ok(pass(frame.number, ranged, words, seen))
+        }
+        Err(fault) => Err(Refused {
             fault,
             place: frame.number as u16,
-        };
-    }
-    let after = pass(frame, form, words, seen);
-    let next = frame.number + 1;
-    Scan {
-        wide: scan.wide,
-        more: next < form::frames(form, sheet.len()),
-        seen: after,
-        fault: 0,
-        place: 0,
+        }),
     }
 }
 
-// The pass from frame 0 on: one reader is stepped along the sheet.
-fn scan_frames(sheet: &[u8], words: &mut [u64], mut scan: Scan) -> Scan
-    requires { Scanning (sheet_of (form_of scan.wide) sheet.now) words.old 0 scan.more scan.seen scan.fault scan.place }
-    ensures { Scanned (sheet_of (form_of scan.wide) sheet.now) words.new result.seen result.fault result.place }
+// The pass over all frames, one after the other.
+fn scan_frames(sheet: &[u8], form: Form, words: &mut [u64]) -> Result<Seen, Refused>
+    requires { (some_holds (size_causes (sheet_of form sheet.now)) ≡ false) × (Sizes.most_frames form ≤ length words.old) }
+    ensures { Scanned (sheet_of form sheet.now) words.new (frames (sheet_of form sheet.now)) result }
 {
-    let mut reader = reader::new(sheet, 0, scan.wide);
-    while scan.more {
-        let frame = reader::next(&mut reader);
-        scan = visit(sheet, words, scan, frame);
+    let mut seen = Seen::default();
+    for frame in Reader::new(sheet, form, 0) {
+        seen = visit(sheet, form, words, frame, seen)?;
     }
-    scan
-}
-
-// The answer of a refusal.
-fn refused(number: u8, place: u16) -> Checked
-    ensures { (result.number ≡ number) × (result.place ≡ place) × (result.free ≡ 0) × (result.gauges ≡ 0) }
-{
-    Checked {
-        number,
-        place,
-        free: 0,
-        gauges: 0,
-    }
+    Ok(seen)
 }
 
 // The answer where no cause holds at a frame: the last frame's free variables are word.
-fn root_answer(form: Form, word: u64, seen: Seen, place: u16) -> Checked
+fn root_answer(form: Form, word: u64, seen: Seen, place: u16) -> Result<Accepted, Refused>
     requires { word < 2 ^ Sizes.variables form }
-    ensures { RootChecks form word seen place result.number result.place result.free result.gauges }
+    ensures { RootChecks form word seen place (refused_number result) (refused_place result) (free_told result) (gauges_told result) }
 {
     if seen.bound & word != 0 {
-        return refused(refusal::BOUND_FREE, place);
+        return Err(Refused {
+            fault: Fault::BoundFree,
+            place,
+        });
     }
-    Checked {
-        number: 0,
-        place: 0,
+    Ok(Accepted {
         free: word,
         gauges: seen.gauges,
-    }
+    })
 }
 
-// The frames of a sheet of a right size, in one pass; `words` has room for the free variables of each.
-fn scan_with(sheet: &[u8], wide: bool, words: &mut [u64]) -> Checked
-    requires { (some_holds (size_causes (sheet_of (form_of wide) sheet.now)) ≡ false) × (Sizes.most_frames (form_of wide) ≤ length words.old) }
-    ensures { Checks (frame_causes (sheet_of (form_of wide) sheet.now)) (sheet_of (form_of wide) sheet.now) result.number result.place result.free result.gauges }
+// The frames of a sheet of a right size, in one pass, with words of its own for the free variables of so many.
+fn scan_sized<const FRAMES: usize>(sheet: &[u8], form: Form) -> Result<Accepted, Refused>
+    requires { (some_holds (size_causes (sheet_of form sheet.now)) ≡ false) × (Sizes.most_frames form ≡ FRAMES) }
+    ensures { Checks (frame_causes (sheet_of form sheet.now)) (sheet_of form sheet.now) (refused_number result) (refused_place result) (free_told result) (gauges_told result) }
 {
-    let none = Seen {
-        bound: 0,
-        inputs: 0,
-        gauges: 0,
-    };
-    let from = Scan {
-        wide,
-        more: true,
-        seen: none,
-        fault: 0,
-        place: 0,
-    };
-    let scan = scan_frames(sheet, words, from);
-    if scan.fault != 0 {
-        return refused(scan.fault, scan.place);
-    }
-    let form = form::of(wide);
+    let mut words = [0u64; FRAMES];
+    let seen = scan_frames(sheet, form, &mut words)?;
     let last = form::frames(form, sheet.len()) - 1;
-    root_answer(form, words[last], scan.seen, last as u16)
-}
-
-// With words of its own, as many as a sheet of the form may have frames.
-fn scan_narrow(sheet: &[u8]) -> Checked
-    requires { some_holds (size_causes (sheet_of Form.Narrow sheet.now)) ≡ false }
-    ensures { Checks (frame_causes (sheet_of Form.Narrow sheet.now)) (sheet_of Form.Narrow sheet.now) result.number result.place result.free result.gauges }
-{
-    let mut words = [0u64; 200];
-    scan_with(sheet, false, &mut words)
-}
-
-fn scan_wide(sheet: &[u8]) -> Checked
-    requires { some_holds (size_causes (sheet_of Form.Wide sheet.now)) ≡ false }
-    ensures { Checks (frame_causes (sheet_of Form.Wide sheet.now)) (sheet_of Form.Wide sheet.now) result.number result.place result.free result.gauges }
-{
-    let mut words = [0u64; 3000];
-    scan_with(sheet, true, &mut words)
+    root_answer(form, words[last], seen, last as u16)
 }
 
 // The frames of a sheet of a right size. `pub` for a run, which looks at its script between size and frames.
-pub fn check_frames(sheet: &[u8], form: Form) -> Checked
+pub fn check_frames(sheet: &[u8], form: Form) -> Result<Accepted, Refused>
     requires { some_holds (size_causes (sheet_of form sheet.now)) ≡ false }
-    ensures { Checks (frame_causes (sheet_of form sheet.now)) (sheet_of form sheet.now) result.number result.place result.free result.gauges }
+    ensures { Checks (frame_causes (sheet_of form sheet.now)) (sheet_of form sheet.now) (refused_number result) (refused_place result) (free_told result) (gauges_told result) }
 {
     match form {
-        Form::Narrow => scan_narrow(sheet),
-        Form::Wide => scan_wide(sheet),
+        Form::Narrow => scan_sized::<200>(sheet, form),
+        Form::Wide => scan_sized::<3000>(sheet, form),
     }
 }
 
 // The check of any bytes as a sheet of the form.
-fn check_form(sheet: &[u8], form: Form) -> Checked
-    ensures { Checks (sheet_causes (sheet_of form sheet.now)) (sheet_of form sheet.now) result.number result.place result.free result.gauges }
+pub fn check(sheet: &[u8], form: Form) -> Result<Accepted, Refused>
+    ensures { Checks (sheet_causes (sheet_of form sheet.now)) (sheet_of form sheet.now) (refused_number result) (refused_place result) (free_told result) (gauges_told result) }
 {
-    let number = size_fault(form, sheet.len());
-    if number != 0 {
-        return refused(number, 0);
-    }
+    check_size(form, sheet.len())?;
     check_frames(sheet, form)
-}
-
-// As a narrow sheet.
-pub fn check(sheet: &[u8]) -> Checked
-    ensures { Checks (sheet_causes (sheet_of Form.Narrow sheet.now)) (sheet_of Form.Narrow sheet.now) result.number result.place result.free result.gauges }
-{
-    check_form(sheet, Form::Narrow)
-}
-
-// As a wide one.
-pub fn check_wide(sheet: &[u8]) -> Checked
-    ensures { Checks (sheet_causes (sheet_of Form.Wide sheet.now)) (sheet_of Form.Wide sheet.now) result.number result.place result.free result.gauges }
-{
-    check_form(sheet, Form::Wide)
 }

@@ -4,7 +4,7 @@ use Rattle.std.proofs.Common.{arith, sym, ◌∙◌, ap}
 use Rattle.std.specs.Int.Bits.{bit_or, bit_and, or_zero_r, and_zero_r}
 use Rattle.words.proofs.Logic.{clash, or-false}
 use Rattle.words.specs.Word.{bit}
-use Rattle.words.proofs.Word.{bit-or, bit-none}
+use Rattle.words.proofs.Bits.{bit-or, bit-none}
 use Rattle.words.specs.Mask.{Sub, Apart, without}
 use Rattle.words.proofs.Mask.{bit-without, sub-bits, sub_refl, bits_apart, sub_trans, none-sub, without_sub, without-apart, or_apart, apart-sub, apart-sym, apart-bits, without-sum}
 use Rattle.cube.specs.Cube.{Made}

@@ -7,7 +7,7 @@ use Rattle.std.proofs.Math.Bool.{true, false, not}
 use Rattle.std.specs.Int.Bits.{bit_and, bit_or, or_zero_r}
 use Rattle.words.proofs.Logic.{by_bool, clash, or-false}
 use Rattle.words.specs.Word.{bit}
-use Rattle.words.proofs.Word.{bit-and, bit-or, bit-none}
+use Rattle.words.proofs.Bits.{bit-and, bit-or, bit-none}
 use Rattle.words.specs.Mask.{Sub, without}
 use Rattle.words.proofs.Mask.{bit-without, sub-bits, bits_apart, apart-bits, none-sub, sub_trans, sub-or-left, or-sub, or-sum, or_apart, apart-sub, apart-sym, agree-split, agree-sum}
 use Rattle.cube.specs.Cube.{Made}

@@ -8,7 +8,7 @@ use Rattle.std.specs.Int.Bits.{bit_or, or_zero_r}
 use Rattle.words.specs.Logic.{not-true}
 use Rattle.words.proofs.Logic.{clash, and_both}
 use Rattle.words.specs.Word.{bit}
-use Rattle.words.proofs.Word.{bit-or, bit-none}
+use Rattle.words.proofs.Bits.{bit-or, bit-none}
 use Rattle.words.specs.Mask.{Apart, without}
 use Rattle.words.proofs.Mask.{without-sum, apart-bits, apart-sub, apart-sym, sub-or-right}
 use Rattle.formula.specs.Formula.{Formula, free}

@@ -5,7 +5,7 @@ use Rattle.std.proofs.Math.Path.{ap}
 use Rattle.std.specs.Int.Bits.{bit_or}
 use Rattle.words.proofs.Logic.{by_bool, clash, not-not}
 use Rattle.words.specs.Word.{bit}
-use Rattle.words.proofs.Word.{bit-pow}
+use Rattle.words.proofs.Bits.{bit-pow}
 use Rattle.words.specs.Mask.{Sub, Apart, without}
 use Rattle.words.proofs.Mask.{sub_refl, bits_apart, bits_sub, sub_trans, sub-without, without_sub, without-apart, apart-sub, apart-sym, apart-bits}
 use Rattle.cube.specs.Cube.{Freed}
@@ -82,13 +82,16 @@ module _ {s : Sheet} {net : List ℕ} {m y : ℕ} {u : List ℕ} {cu : ℕ} {o :
       stays : {w : ℕ} → Held (asked_of s all some) v w m y r → Sub r (without m (2 ^ x))
       stays h = sub-without h.inside (apart-bits r (2 ^ x) (λ k i. bit-pow x k ∙ by_bool (eqb k x) (λ q. clash (bit r k) i (ap (bit r) (eqb-true k x q) ∙ e)) (λ q. q)))
 
-  -- the search for the other truth with x dropped; q are the variables that what is asked hangs on
-  module _ {q loose : ℕ} (eq : q ≡ without (free_of net) (bit_or some all)) (el : loose ≡ without q m') where
-    pub less_asking : Asking s net (3 - v) loose all some m' y' u cu o co
-    less_asking = aimed_asking R A eq el (3 - v) (omega arith) (omega arith) less_sub (freed_sub F R.valued)
+  -- the search for the other truth t with x dropped; q are the variables that what is asked hangs on
+  module _ {q loose t : ℕ} (eq : q ≡ without (free_of net) (bit_or some all)) (el : loose ≡ without q m') (et : t ≡ 3 - v) where
+    pub less_asking : Asking s net t loose all some m' y' u cu o co
+    less_asking = aimed_asking R A eq el t (omega (arith, et)) (omega (arith, et)) less_sub (freed_sub F R.valued)
+
+    other_truth : val t ≡ not (val v)
+    other_truth = ap val et ∙ val_flip v a b
 
     -- it shows that x is idle
-    pub turned_dropped : {r z : ℕ} → Lost (asked net all some) (val (3 - v)) loose y' z → Turned (variables s) (asked_of s all some) v m y r x m' y' z
+    pub turned_dropped : {r z : ℕ} → Lost (asked net all some) (val t) loose y' z → Turned (variables s) (asked_of s all some) v m y r x m' y' z
     turned_dropped {r} {z} h = record {
       less = less_sub;
       valued = λ i. freed_sub F i;
@@ -96,11 +99,11 @@ module _ {s : Sheet} {net : List ℕ} {m y : ℕ} {u : List ℕ} {cu : ℕ} {o :
       step = λ w g. rw mask_is (reduce-drop (variables s) (asked_of s all some) w (val v) x m (explains_always (variables s) (asked_of s all some) (without m (2 ^ x)) w (val v) z (shown w g) (rw mask_is at inside_it)));
     }
       where
-        lost : Lost (asked_of s all some) (val (3 - v)) loose y' z
+        lost : Lost (asked_of s all some) (val t) loose y' z
         lost = lost_serves (aimed_serves R A) h
 
-        truth-is : not (val (3 - v)) ≡ val v
-        truth-is = ap not (val_flip v a b) ∙ not-not (val v)
+        truth-is : not (val t) ≡ val v
+        truth-is = ap not other_truth ∙ not-not (val v)
 
         inside_it : Sub z m'
         inside_it = aimed_inside R A eq el lost.explains lost.apart
@@ -109,16 +112,16 @@ module _ {s : Sheet} {net : List ℕ} {m y : ℕ} {u : List ℕ} {cu : ℕ} {o :
         shown w g = explains_set (rw truth-is at lost.explains) (bit w) (λ k i. still-same w g.same k (bits_sub inside_it k i))
 
     -- it shows that x is not
-    pub turned-kept : {r word z : ℕ} → Found (asked net all some) (val (3 - v)) loose y' word z → Turned (variables s) (asked_of s all some) v m y r x m y r
+    pub turned-kept : {r word z : ℕ} → Found (asked net all some) (val t) loose y' word z → Turned (variables s) (asked_of s all some) v m y r x m y r
     turned-kept {r} {word} {z} h = record {
       less = sub_refl m;
       valued = λ i. i;
       held = λ w g. g;
       step = λ w g. reduce-keep (variables s) (asked_of s all some) w (val v) x m
-          (fails-always (variables s) (asked_of s all some) (without m (2 ^ x)) w (val v) (aimed_bounded R A) (bit word) (agrees w g) (explains_truth found.explains ∙ val_flip v a b));
+          (fails-always (variables s) (asked_of s all some) (without m (2 ^ x)) w (val v) (aimed_bounded R A) (bit word) (agrees w g) (explains_truth found.explains ∙ other_truth));
     }
       where
-        found : Found (asked_of s all some) (val (3 - v)) loose y' word z
+        found : Found (asked_of s all some) (val t) loose y' word z
         found = found_serves (aimed_serves R A) h
 
         chosen_off : Apart m' found.chosen

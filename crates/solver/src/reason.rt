@@ -5,7 +5,7 @@ ghost use Rattle.words.specs.Mask as Mask;
 ghost use Rattle.formula.specs.Why as Formula;
 ghost use Rattle.formula.specs.Why.{reduce};
 ghost use Rattle.form.specs.Form as Sizes;
-ghost use Rattle.net.specs.Layout.{net_form, free_of, gauges_of, val};
+ghost use Rattle.net.specs.Layout.{net_form, free_of, gauges_of, val, number};
 ghost use Rattle.sheet.specs.Fields.{Sheet, variables};
 ghost use Rattle.solver.specs.Contract.{root, Ready, TablesGrown, reason_of, Same};
 ghost use Rattle.solver.specs.Aim.{asked_of, Aimed};
@@ -15,12 +15,12 @@ use crate::question::{Question, solve};
 use crate::verdict::{Answered, failing, ours, unread};
 use cube::Cube64;
 use records::Counts;
-use words::w64;
+use words::Word;
 
 // What a reason is for: the truth v of what a question with these `all` and `some` asks.
 #[derive(Clone, Copy)]
 struct Aim {
-    v: u8,
+    v: bool,
     all: u64,
     some: u64,
 }
@@ -38,7 +38,7 @@ fn reach(net: &[u64], aim: Aim) -> u64
     requires { 1 < length net.now }
     ensures { result ≡ Mask.without (free_of net.now) (bit_or aim.some aim.all) }
 {
-    w64::without(net::free(net), aim.some | aim.all)
+    net::free(net).without(aim.some | aim.all)
 }
 
 // One variable: it goes if what is left without it still gives the aim its truth. Outside the proved reason it goes without a search.
@@ -52,16 +52,16 @@ fn dropped(
     over: &mut [u32],
     kept: Counts,
 ) -> Left
-    requires v_nonzero { (0 < aim.v) × (aim.v < 3) × (variable < 64) }
+    requires variable_low { variable < 64 }
     requires aimed { ((s : Sheet) × Ready s net.old cube.mask cube.values under.old kept.under over.old kept.over) × Aimed net.old aim.all aim.some cube.mask }
     ensures net_unchanged { net.new ≡ net.old }
-    ensures turned { (s : Sheet) → Ready s net.old cube.mask cube.values under.old kept.under over.old kept.over → Turned (variables s) (asked_of s aim.all aim.some) aim.v cube.mask cube.values reason variable result.cube.mask result.cube.values result.reason × TablesGrown s under.old kept.under over.old kept.over under.new result.kept.under over.new result.kept.over }
+    ensures turned { (s : Sheet) → Ready s net.old cube.mask cube.values under.old kept.under over.old kept.over → Turned (variables s) (asked_of s aim.all aim.some) (number aim.v) cube.mask cube.values reason variable result.cube.mask result.cube.values result.reason × TablesGrown s under.old kept.under over.old kept.over under.new result.kept.under over.new result.kept.over }
 {
-    if !w64::has(cube.mask, variable) {
+    if !cube.mask.has(variable) {
         return Left { cube, reason, kept };
     }
     let less = cube.free(variable);
-    if !w64::has(reason, variable) {
+    if !reason.has(variable) {
         return Left {
             cube: less,
             reason,
@@ -69,24 +69,23 @@ fn dropped(
         };
     }
     let q = Question {
-        target: 3 - aim.v,
-        loose: w64::without(reach(&net[..], aim), less.mask),
+        target: !aim.v,
+        loose: reach(&net[..], aim).without(less.mask),
         all: aim.all,
         some: aim.some,
     };
     let s = solve(net, q, less, under, over, kept);
-    let after = s.kept;
     if s.found {
         return Left {
             cube,
             reason,
-            kept: after,
+            kept: s.kept,
         };
     }
     Left {
         cube: less,
         reason: s.reason,
-        kept: after,
+        kept: s.kept,
     }
 }
 
@@ -108,18 +107,14 @@ fn reduced(
     over: &mut [u32],
     kept: Counts,
 ) -> Left
-    requires v_nonzero { (0 < aim.v) × (aim.v < 3) × Aimed net.old aim.all aim.some cube.mask }
-    requires ready { (s : Sheet) × Ready s net.old cube.mask cube.values under.old kept.under over.old kept.over × Held (asked_of s aim.all aim.some) aim.v cube.values cube.mask cube.values reason }
+    requires aimed { Aimed net.old aim.all aim.some cube.mask }
+    requires ready { (s : Sheet) × Ready s net.old cube.mask cube.values under.old kept.under over.old kept.over × Held (asked_of s aim.all aim.some) (number aim.v) cube.values cube.mask cube.values reason }
     ensures net_unchanged { net.new ≡ net.old }
-    ensures mask_value { (s : Sheet) → Ready s net.old cube.mask cube.values under.old kept.under over.old kept.over → Held (asked_of s aim.all aim.some) aim.v cube.values cube.mask cube.values reason → (result.cube.mask ≡ reduce (variables s) (asked_of s aim.all aim.some) cube.values (val aim.v) (variables s) cube.mask) × TablesGrown s under.old kept.under over.old kept.over under.new result.kept.under over.new result.kept.over }
+    ensures mask_value { (s : Sheet) → Ready s net.old cube.mask cube.values under.old kept.under over.old kept.over → Held (asked_of s aim.all aim.some) (number aim.v) cube.values cube.mask cube.values reason → (result.cube.mask ≡ reduce (variables s) (asked_of s aim.all aim.some) cube.values (val (number aim.v)) (variables s) cube.mask) × TablesGrown s under.old kept.under over.old kept.over under.new result.kept.under over.new result.kept.over }
 {
     let mut left = Left { cube, reason, kept };
-    let mut x = variables_of(&net[..]);
-    while x > 0 {
-        x -= 1;
-        let last = left.cube;
-        let counts = left.kept;
-        left = dropped(net, aim, last, left.reason, x, under, over, counts);
+    for x in (0..variables_of(&net[..])).rev() {
+        left = dropped(net, aim, left.cube, left.reason, x, under, over, left.kept);
     }
     left
 }
@@ -140,16 +135,15 @@ fn plain(
     let free = net::free(&net[..]);
     let entered = Cube64::of(mask, values);
     let q = Question {
-        target: 2,
-        loose: w64::without(free, mask),
+        target: true,
+        loose: free.without(mask),
         all: 0,
         some: 0,
     };
     let s = solve(net, q, entered, under, over, kept);
-    let after = s.kept;
     if s.found {
         let aim = Aim {
-            v: 2,
+            v: true,
             all: 0,
             some: 0,
         };
@@ -160,26 +154,24 @@ fn plain(
             s.reason,
             under,
             over,
-            after,
+            s.kept,
         );
-        let end = left.kept;
         return Answered {
             holds: true,
             word: left.cube.mask,
-            kept: end,
+            kept: left.kept,
         };
     }
     let aim = Aim {
-        v: 1,
+        v: false,
         all: 0,
         some: 0,
     };
-    let left = reduced(net, aim, entered, s.reason, under, over, after);
-    let end = left.kept;
+    let left = reduced(net, aim, entered, s.reason, under, over, s.kept);
     Answered {
         holds: false,
         word: left.cube.mask,
-        kept: end,
+        kept: left.kept,
     }
 }
 
@@ -200,32 +192,33 @@ fn gauged(
     let some = ours(&net[..], mask);
     let entered = Cube64::of(mask, values);
     let s = failing(net, mask, values, under, over, kept);
-    let after = s.kept;
     if s.found {
-        let aim = Aim { v: 1, all, some };
+        let aim = Aim {
+            v: false,
+            all,
+            some,
+        };
         let left = reduced(
             net,
             aim,
             entered,
-            w64::without(s.reason, all),
+            s.reason.without(all),
             under,
             over,
-            after,
+            s.kept,
         );
-        let end = left.kept;
         return Answered {
             holds: false,
             word: left.cube.mask,
-            kept: end,
+            kept: left.kept,
         };
     }
-    let aim = Aim { v: 2, all, some };
-    let left = reduced(net, aim, entered, s.reason, under, over, after);
-    let end = left.kept;
+    let aim = Aim { v: true, all, some };
+    let left = reduced(net, aim, entered, s.reason, under, over, s.kept);
     Answered {
         holds: true,
         word: left.cube.mask,
-        kept: end,
+        kept: left.kept,
     }
 }
 

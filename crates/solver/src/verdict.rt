@@ -16,9 +16,9 @@ use crate::question::{Question, solve};
 use cube::Cube64;
 use form::Form;
 use proxies::low;
-use records::{Counts, Found};
+use records::Counts;
 use search::Outcome;
-use words::w64;
+use words::Word;
 
 // A verdict and its word, and how many records each table then holds.
 #[derive(Clone, Copy)]
@@ -41,8 +41,7 @@ fn ensure(
     requires { (record_start form count ≤ length table.old) × (assigned < word_end form) × (reason < word_end form) }
     ensures { Ensured form table.old count table.new result frame assigned setting reason }
 {
-    let found = records::search(&table[..], form, count, frame, assigned, setting);
-    if let Found::At(_) = found {
+    if let Some(_) = records::search(&table[..], form, count, frame, assigned, setting) {
         return count;
     }
     records::put(table, form, count, frame, reason, setting & reason)
@@ -67,8 +66,8 @@ fn chosen(
     let s = solve(
         net,
         Question {
-            target: 2,
-            loose: w64::without(free, mask),
+            target: true,
+            loose: free.without(mask),
             all: 0,
             some: 0,
         },
@@ -77,12 +76,11 @@ fn chosen(
         over,
         kept,
     );
-    let after = s.kept;
     if s.found {
         let n = ensure(
             under,
             form,
-            after.under,
+            s.kept.under,
             last as u32,
             low(form, free),
             low(form, s.word),
@@ -91,16 +89,13 @@ fn chosen(
         return Answered {
             holds: true,
             word: s.word,
-            kept: Counts {
-                under: n,
-                over: after.over,
-            },
+            kept: Counts { under: n, ..s.kept },
         };
     }
     let n = ensure(
         over,
         form,
-        after.over,
+        s.kept.over,
         last as u32,
         low(form, mask),
         low(form, values),
@@ -109,10 +104,7 @@ fn chosen(
     Answered {
         holds: false,
         word: 0,
-        kept: Counts {
-            under: after.under,
-            over: n,
-        },
+        kept: Counts { over: n, ..s.kept },
     }
 }
 
@@ -121,7 +113,7 @@ pub fn unread(net: &[u64], mask: u64) -> u64
     requires { (s : Sheet) × NetOf s net.now }
     ensures { (s : Sheet) → NetOf s net.now → result ≡ unread_of s mask }
 {
-    w64::without(net::free(net), mask) & net::gauges(net)
+    net::free(net).without(mask) & net::gauges(net)
 }
 
 // The other free variables that are not entered.
@@ -129,7 +121,7 @@ pub fn ours(net: &[u64], mask: u64) -> u64
     requires { (s : Sheet) × NetOf s net.now }
     ensures { (s : Sheet) → NetOf s net.now → result ≡ ours_of s mask }
 {
-    w64::without(w64::without(net::free(net), mask), net::gauges(net))
+    net::free(net).without(mask).without(net::gauges(net))
 }
 
 // The smallest setting of the unread gauges under which no choice of the others makes the sheet hold.
@@ -148,7 +140,7 @@ pub fn failing(
     let unset = unread(&net[..], mask);
     let rest = ours(&net[..], mask);
     let q = Question {
-        target: 1,
+        target: false,
         loose: unset,
         all: 0,
         some: rest,
@@ -163,12 +155,11 @@ fn failed(net: &[u64], assigned: u64, mask: u64, s: Outcome, over: &mut [u32]) -
 {
     let form = net::form(net);
     let last = net::frames(net) - 1;
-    let kept = s.kept;
     let why = s.reason;
     let n = ensure(
         over,
         form,
-        kept.over,
+        s.kept.over,
         last as u32,
         low(form, assigned),
         low(form, s.word),
@@ -176,11 +167,8 @@ fn failed(net: &[u64], assigned: u64, mask: u64, s: Outcome, over: &mut [u32]) -
     );
     Answered {
         holds: false,
-        word: w64::without(s.word, mask),
-        kept: Counts {
-            under: kept.under,
-            over: n,
-        },
+        word: s.word.without(mask),
+        kept: Counts { over: n, ..s.kept },
     }
 }
 
@@ -202,9 +190,8 @@ pub fn ask(
         return chosen(net, mask, values, under, over, kept);
     }
     let s = failing(net, mask, values, under, over, kept);
-    let after = s.kept;
     if s.found {
         return failed(&net[..], mask | waiting, mask, s, over);
     }
-    chosen(net, mask | waiting, values, under, over, after)
+    chosen(net, mask | waiting, values, under, over, s.kept)
 }

@@ -1,31 +1,20 @@
 -- What reading lines comes to, step by step, for lines of any number of bytes: the laws that the code goes by. Assumes nothing.
 use Prim.Native.Nat.{ℕ, zero, suc, ◌+◌, ◌-◌, ◌*◌, ◌≤◌, ◌<◌}
 use native.Mathlib.Omega.{arith}
-use Rattle.std.proofs.Common.{add-zero, zero-add, suc-add, zero-mul, suc-mul, add-one, ap, ◌∙◌, length-append, get_or-drop, drop-drop}
-use Rattle.std.specs.Prelude.{true, false, ◌&&◌, List, [], ◌∷◌, ◌≡◌, eqb, length, get_or, set, drop}
+use Rattle.std.proofs.Common.{add-one, zero-add, suc-add, zero-mul, suc-mul, ap, ◌∙◌, length-append, drop-drop}
+use Rattle.std.specs.List.{list_all}
+use Rattle.std.specs.Option.{IsSome}
+use Rattle.std.specs.Prelude.{Option, Some, None, unwrap_or, Bool, true, false, ◌&&◌, List, [], ◌∷◌, ◌≡◌, eqb, length, set, take, drop}
 use Rattle.std.proofs.Math.Path.{refl, sym}
 use Rattle.std.proofs.Math.Dec.{ltb}
-use Rattle.std.proofs.Math.ListN.{length-drop, get_or-eq_default}
+use Rattle.std.proofs.Math.ListN.{length-drop}
 use Rattle.std.proofs.lemmas.List.Edits.{sets}
 use borrow.Author.Tests.{ltb-true, ltb-false, lt-ltb, le-ltb, ne_eqb}
 use Rattle.words.proofs.Logic.{by_bool, and_both}
 use Rattle.words.proofs.Stores.{sets_append}
-use Rattle.text.specs.Hex.{digit_value, line_feed, carriage_return}
+use Rattle.text.specs.Hex.{digit_value, is_digit, line_feed, carriage_return}
 use Rattle.text.proofs.HexLaws.{value-below}
 use Rattle.text.specs.Line.{head, ending, digits, line_size, byte_here, bytes, TwoDigits, Lines, no_lines, line_then, lines}
-
-pub head-drop : (at : ℕ) (l : List ℕ) → head (drop at l) ≡ get_or l at 0
-head-drop at l = get_or-drop at l 0 0 ∙ ap (λ (k : ℕ). get_or l k 0) (add-zero at)
-
-pub head-next : (at : ℕ) (l : List ℕ) → head (drop 1 (drop at l)) ≡ head (drop (at + 1) l)
-head-next at l = ap head (drop-drop 1 at l)
-
--- a byte other than 0 stands within the text
-pub head-within : (at : ℕ) (l : List ℕ) → 0 < head (drop at l) → at < length l
-head-within at l h =
-    by_bool (ltb at (length l)) (ltb-true at (length l))
-    (λ f. let z : head (drop at l) ≡ 0 = head-drop at l ∙ get_or-eq_default l 0 (ltb-false at (length l) f) in
-    absurd (omega arith))
 
 -- ---- digits
 
@@ -53,6 +42,27 @@ digits_two n l e =
     let b = and_both (ltb (digit_value (head (drop 1 l))) 16) (digits n (drop 1 (drop 1 l))) a.1 in
     (record { high = ltb-true _ _ a.0; low = ltb-true _ _ b.0 }, rw (drop-drop 1 1 l) at b.1)
 
+-- they all lie within the text
+pub digits-within : (n : ℕ) (l : List ℕ) → digits n l ≡ true → n ≤ length l
+unfolding digits
+digits-within zero l e = omega arith
+digits-within (suc n) [] e = absurd (omega (arith, first-digit n [] e, value-below 0 (omega arith)))
+digits-within (suc n) (b ∷ l) e = omega (arith, digits-within n l (and_both (ltb (digit_value b) 16) (digits n l) e).1)
+
+pub digits-all : (n : ℕ) (l : List ℕ) → n ≤ length l → list_all is_digit (take n l) ≡ digits n l
+unfolding digits
+digits-all zero l h = refl
+digits-all (suc n) [] h = absurd (omega arith)
+digits-all (suc n) (b ∷ l) h = ap (λ (r : Bool). is_digit b && r) (digits-all n l (omega arith))
+
+pub digits_short : (n : ℕ) (l : List ℕ) → length l < n → digits n l ≡ false
+digits_short n l h = by_bool (digits n l) (λ t. absurd (omega (arith, digits-within n l t))) (λ f. f)
+
+pub two_within : (l : List ℕ) → TwoDigits l → 2 ≤ length l
+two_within [] t = absurd (omega (arith, t.high, value-below 0 (omega arith)))
+two_within (a ∷ []) t = absurd (omega (arith, t.low, value-below 0 (omega arith)))
+two_within (a ∷ b ∷ l) t = omega arith
+
 -- the digits behind the first m
 pub digits-later : (m n : ℕ) (l : List ℕ) → digits (m + n) l ≡ true → digits n (drop m l) ≡ true
 unfolding digits
@@ -64,24 +74,9 @@ digits-later (suc m) n l e =
 
 -- ---- a line's end
 
--- by the first byte that stands here, and the second
-module _ (l : List ℕ) (first : ℕ) (e : first ≡ head l) where
-  pub ending-feed : first ≡ line_feed → ending l ≡ 1
-  unfolding ending
-  ending-feed h = rw (← e, h)
-
-  pub ending-other : (first ≡ line_feed → ⊥) → (first ≡ carriage_return → ⊥) → ending l ≡ 0
-  unfolding ending
-  ending-other h k = rw (← e, ne_eqb first line_feed h, ne_eqb first carriage_return k)
-
-  module _ (h : first ≡ carriage_return) (second : ℕ) (d : second ≡ head (drop 1 l)) where
-    pub ending_return : second ≡ line_feed → ending l ≡ 2
-    unfolding ending
-    ending_return k = rw (← e, h, ← d, k)
-
-    pub ending_lone : (second ≡ line_feed → ⊥) → ending l ≡ 0
-    unfolding ending
-    ending_lone k = rw (← e, h, ← d, ne_eqb second line_feed k)
+pub ending-other : (l : List ℕ) (first : ℕ) → first ≡ head l → (first ≡ line_feed → ⊥) → (first ≡ carriage_return → ⊥) → ending l ≡ 0
+unfolding ending
+ending-other l first e h k = rw (← e, ne_eqb first line_feed h, ne_eqb first carriage_return k)
 
 pub ending-most : (l : List ℕ) → ending l ≤ 2
 unfolding ending
@@ -103,6 +98,11 @@ digit-no-end zero l h e = absurd (omega arith)
 digit-no-end (suc n) l h e =
     let d = first-digit n l e in
     ending-other l (head l) refl (λ f. omega (arith, d, value-below (head l) (omega arith))) (λ f. omega (arith, d, value-below (head l) (omega arith)))
+
+-- what is more than 0, told by 0 where it is none, is there
+pub some-told : (r : Option ℕ) → 0 < unwrap_or r 0 → IsSome r
+some-told None h = absurd (omega arith)
+some-told (Some n) h = refl
 
 -- ---- a line's size
 
@@ -160,10 +160,11 @@ pub bytes-none : (l : List ℕ) → bytes 0 l ≡ []
 unfolding bytes
 bytes-none l = refl
 
-pub bytes-put : (n at : ℕ) (text out : List ℕ) (to b : ℕ) → b ≡ byte_here (drop at text)
-    → sets out to (bytes (suc n) (drop at text)) ≡ sets (set out to b) (to + 1) (bytes n (drop (at + 2) text))
+pub bytes-put : (n i : ℕ) (text out : List ℕ) (b : ℕ) → b ≡ byte_here (drop (2 * i) text)
+    → sets out i (bytes (suc n) (drop (2 * i) text)) ≡ sets (set out i b) (i + 1) (bytes n (drop (2 * (i + 1)) text))
 unfolding bytes
-bytes-put n at text out to b e = rw (← e, drop-drop 2 at text, add-one to)
+bytes-put n i text out b e =
+    let t : 2 * (i + 1) ≡ 2 * i + 2 = omega arith in rw (t, add-one i, ← e, drop-drop 2 (2 * i) text)
 
 -- ---- lines in a row
 
@@ -181,16 +182,8 @@ module _ (w : ℕ) where
   unfolding lines
   lines_none l = refl
 
-  -- the text behind a line at a place of it
-  module _ (text : List ℕ) (at size : ℕ) (e : size ≡ line_size w (drop at text)) where
-    pub next-line : drop (line_size w (drop at text)) (drop at text) ≡ drop (at + size) text
-    next-line = ap (λ (k : ℕ). drop k (drop at text)) (sym e) ∙ drop-drop size at text
-
-    pub next-within : at ≤ length text → at + size ≤ length text
-    next-within h = omega (arith, size-within w (drop at text), length-drop at text)
-
-    pub lines-turn : (n : ℕ) → 0 < size → lines w (suc n) (drop at text) ≡ line_then w (drop at text) (lines w n (drop (at + size) text))
-    lines-turn n h = lines_more n (drop at text) (omega arith) ∙ ap (λ (l : List ℕ). line_then w (drop at text) (lines w n l)) next-line
+  pub lines-turn : (l : List ℕ) (size : ℕ) → size ≡ line_size w l → (n : ℕ) → 0 < size → lines w (suc n) l ≡ line_then w l (lines w n (drop size l))
+  lines-turn l size e n h = rw e (lines_more n l (omega arith))
 
   -- where as many lines stand as were asked for, the first is one
   pub first-line : (n : ℕ) (l : List ℕ) → (lines w (suc n) l).count ≡ suc n → 0 < line_size w l
@@ -199,24 +192,20 @@ module _ (w : ℕ) where
       (λ f. let z : line_size w l ≡ 0 = omega (arith, ltb-false 0 (line_size w l) f) in
       let c : (lines w (suc n) l).count ≡ 0 = ap (λ (k : Lines). k.count) (lines_stop n l z) in absurd (omega arith))
 
-  -- its digits lie within the text
-  pub line-digits : (l : List ℕ) → 0 < line_size w l → 2 * w ≤ length l
-  line-digits l h = omega (arith, (size_shape w l h).1, size-within w l)
+  -- behind it stand the others; its frame is stored, and then theirs
+  module _ (l : List ℕ) (size : ℕ) (e : size ≡ line_size w l) (n : ℕ) (all : (lines w (suc n) l).count ≡ suc n) where
+    turn : lines w (suc n) l ≡ line_then w l (lines w n (drop size l))
+    turn = lines-turn l size e n (omega (arith, first-line n l all))
 
-  -- and behind it stand the others; its frame is stored, and then theirs
-  module _ (text : List ℕ) (at size : ℕ) (e : size ≡ line_size w (drop at text)) (n : ℕ) (all : (lines w (suc n) (drop at text)).count ≡ suc n) where
-    turn : lines w (suc n) (drop at text) ≡ line_then w (drop at text) (lines w n (drop (at + size) text))
-    turn = lines-turn text at size e n (omega (arith, first-line n (drop at text) all))
-
-    pub other-lines : (lines w n (drop (at + size) text)).count ≡ n
+    pub other-lines : (lines w n (drop size l)).count ≡ n
     other-lines = omega (arith, ap (λ (k : Lines). k.count) turn)
 
     pub frames-put : (out : List ℕ) (to : ℕ)
-        → sets out to (lines w (suc n) (drop at text)).frames ≡ sets (sets out to (bytes w (drop at text))) (to + w) (lines w n (drop (at + size) text)).frames
+        → sets out to (lines w (suc n) l).frames ≡ sets (sets out to (bytes w l)) (to + w) (lines w n (drop size l)).frames
     frames-put out to =
         ap (λ (k : Lines). sets out to k.frames) turn
-        ∙ sets_append (bytes w (drop at text)) _ out to
-        ∙ ap (λ (k : ℕ). sets (sets out to (bytes w (drop at text))) (to + k) (lines w n (drop (at + size) text)).frames) (bytes-length w (drop at text))
+        ∙ sets_append (bytes w l) _ out to
+        ∙ ap (λ (k : ℕ). sets (sets out to (bytes w l)) (to + k) (lines w n (drop size l)).frames) (bytes-length w l)
 
   pub count_most : (n : ℕ) (l : List ℕ) → (lines w n l).count ≤ n
   unfolding lines

@@ -1,14 +1,37 @@
 -- Lines that are written, store by store, for records of any width: the laws that the code goes by. Assumes nothing.
 use Prim.Native.Nat.{ℕ, zero, suc, ◌+◌, ◌*◌, ◌/◌, ◌%◌, ◌≤◌, ◌<◌}
-use Rattle.std.proofs.Common.{zero-mul, add-one, arith, ◌∙◌, drop-cons, length-take-le}
+use Rattle.std.proofs.Common.{zero-mul, add-one, arith, ◌∙◌, drop-cons, length-take-le, append-nil, ◌-◌}
 use Rattle.std.proofs.Math.Nat.{suc-mul}
-use Rattle.std.specs.Prelude.{List, [], ◌∷◌, ◌≡◌, get_or, set, take, drop}
-use Rattle.std.proofs.Math.Path.{refl, sym}
-use Rattle.std.proofs.Math.ListN.{length, length-append, length-drop}
+use Rattle.std.specs.Prelude.{List, [], ◌∷◌, ◌++◌, ◌≡◌, get_or, set, take, drop}
+use Rattle.std.proofs.Math.Path.{refl, sym, ap}
+use Rattle.std.proofs.Math.ListN.{drop_of_length-le, length, length-append, length-drop}
 use Rattle.std.proofs.lemmas.List.Edits.{sets}
 use Rattle.std.proofs.Math.Seq.{drop-drop}
-use Rattle.words.proofs.Stores.{sets_append}
+use Rattle.std.proofs.lemmas.List.Edits.{sets-eq}
+use Rattle.std.proofs.Math.Seq.{take-length}
+use Rattle.std.proofs.lemmas.Slice.{put_mid-paste}
+use borrow.Rule.Slice.PartMut.{put_mid}
+use Rattle.words.proofs.Stores.{sets_append, sets-start}
 use Rattle.text.specs.Hex.{digit_byte, line_feed, hex_line, hex_lines}
+
+-- ---- a part of a buffer
+
+-- what fills a buffer is all of it
+pub sets_whole : (vs l : List ℕ) → length vs ≡ length l → sets l 0 vs ≡ vs
+sets_whole vs l e = sets-start vs l (omega arith) ∙ ap (λ (m : List ℕ). vs ++ m) (drop_of_length-le l (omega arith)) ∙ append-nil vs
+
+-- what fills a part of a buffer is stored from its start
+pub sets_part : (at n : ℕ) (l vs : List ℕ) → length vs ≡ n → at + n ≤ length l → put_mid at (at + n - at) l vs ≡ sets l at vs
+sets_part at n l vs e h =
+    let k : at + n - at ≡ n = omega arith in
+    let b : at + length vs ≤ length l = omega arith in
+    let s = rw e at (sets-eq vs l at b) in
+    rw k (put_mid-paste at n l vs vs n refl refl (sym e) ∙ ap (λ (m : List ℕ). take at l ++ m ++ drop (at + n) l) (ap (λ (j : ℕ). take j vs) (sym e) ∙ take-length vs) ∙ sym s)
+
+pub part_length : (at n : ℕ) (l : List ℕ) → at + n ≤ length l → length (take (at + n - at) (drop at l)) ≡ n
+part_length at n l h =
+    let k : at + n - at ≡ n = omega arith in
+    rw k (length-take-le n (drop at l) (omega (arith, length-drop at l)))
 
 -- ---- a line
 

@@ -1,33 +1,27 @@
 -- What a text reads to, by the tests on its lines: the laws that the code goes by; the form that is told, and how narrow texts read. Assumes nothing.
-use Rattle.std.specs.Prelude.{ℕ, suc, ◌+◌, ◌-◌, ◌*◌, ◌≤◌, ◌<◌, Bool, true, false, List, [], ◌⊎◌, ◌≡◌, refl, eqb, ltb, length}
-use Rattle.std.proofs.Common.{zero-mul, add-one, arith, inl, inr, ⊎_elim, sym, ap, ap₂, ◌∙◌, length-drop}
+use Rattle.std.specs.Prelude.{Ok, Err, ℕ, suc, ◌+◌, ◌*◌, ◌≤◌, ◌<◌, true, false, List, [], ◌⊎◌, ◌≡◌, refl, eqb, ltb, length}
+use Rattle.std.proofs.Common.{zero-mul, add-one, arith, inl, inr, ⊎_elim, sym, ap, ap₂, ◌∙◌}
 use Rattle.std.proofs.Math.Bool.{or-true}
 use Rattle.std.proofs.Math.ListN.{drop}
 use Rattle.std.proofs.lemmas.List.Edits.{sets}
-use Rattle.std.proofs.Math.Seq.{drop-drop}
 use borrow.Author.Tests.{lt-ltb, le-ltb, ltb-false, ne_eqb}
 use Rattle.words.specs.Logic.{tests}
 use Rattle.words.proofs.Logic.{by_bool}
 use Rattle.words.proofs.Stores.{sets-start}
-use Rattle.form.specs.Form.{form_of, frame_bytes, most_frames}
+use Rattle.form.specs.Form.{frame_bytes, most_frames}
 use Rattle.form.specs.declared.Form.{Form}
 use Rattle.form.specs.declared.Form.TheVariants.{Narrow, Wide}
+use Rattle.sheet.specs.Told.{number_of}
+use Rattle.sheet.specs.declared.refusal.Fault.{Fault}
 use Rattle.text.specs.Line.{Lines, lines, line_size, ending, LinesAt}
 use Rattle.text.proofs.LineLaws.{one_size, size-no_empty, lines_stop, lines-count, frames-length}
-use Rattle.text.specs.Reading.{script_frames, script_frame_bytes, sheet_room, script_room, malformed, long_sheet, long_script, no_room, other_form, Reading, refused, accepted, begins_wide, text_form, other, sheet_fault, read_script, read_sheet, reading_in, reading, read_into, Parts, Scanned, Read}
+use Rattle.text.specs.Reading.{script_frames, script_frame_bytes, sheet_room, script_room, malformed, long_sheet, long_script, no_room, other_form, Reading, refused, accepted, begins_wide, text_form, other, sheet_fault, read_script, read_sheet, reading_in, reading, read_into, Parts, Read}
 use Rattle.text.specs.declared.line.Counted.{Counted}
-use Rattle.text.specs.declared.Parsed.{Parsed}
-use Rattle.text.specs.declared.layout.Layout.{Layout}
-use Rattle.text.specs.declared.layout.Layout.TheVariants.{Refused, Accepted}
 use Rattle.text.specs.ReadingLaws.{Framed, narrow_alone}
 
 -- ---- the two forms
 
--- the bytes of a line, as the code asks for them
-pub few_bytes : (F : Form) → frame_bytes F ≤ 16
-few_bytes Narrow = omega arith
-few_bytes Wide = omega arith
-
+-- a line has some bytes
 pub some_bytes : (F : Form) → 0 < frame_bytes F
 some_bytes Narrow = omega arith
 some_bytes Wide = omega arith
@@ -54,51 +48,49 @@ module _ (F : Form) (l : List ℕ) (size : ℕ) (e : size ≡ line_size (frame_b
 -- ---- through a text
 
 -- the lines that were counted are those that are asked for by their count
-counted : (w : ℕ) (text : List ℕ) (from most : ℕ) (r : Counted) → LinesAt w text from most r → lines w r.count (drop from text) ≡ lines w most (drop from text)
-counted w text from most r p = ap (λ (n : ℕ). lines w n (drop from text)) p.count ∙ lines-count w most (drop from text)
+counted : (w : ℕ) (text : List ℕ) (most : ℕ) (r : Counted) → LinesAt w text most r → lines w r.count text ≡ lines w most text
+counted w text most r p = ap (λ (n : ℕ). lines w n text) p.count ∙ lines-count w most text
 
 -- the sheet's lines, by the sizes as the code has them
-module _ (F : Form) (text : List ℕ) (w most : ℕ) (size : w ≡ frame_bytes F) (frames : most ≡ most_frames F) (a : Counted) (lines_at : LinesAt w text 0 (most + 1) a) where
-  p : LinesAt (frame_bytes F) text 0 (suc (most_frames F)) a
+module _ (F : Form) (text : List ℕ) (w most : ℕ) (size : w ≡ frame_bytes F) (frames : most ≡ most_frames F) (a : Counted) (lines_at : LinesAt w text (most + 1) a) where
+  p : LinesAt (frame_bytes F) text (suc (most_frames F)) a
   p = rw (size, frames, add-one) at lines_at
 
-  pub long-sheet : most + 1 ≤ a.count → reading_in F text ≡ refused F long_sheet
+  pub long-sheet : most < a.count → reading_in F text ≡ refused F long_sheet
   unfolding reading_in
   long-sheet h = rw (← p.count, lt-ltb (most_frames F) a.count (omega (arith, frames)))
 
-  module _ (below : a.count < most + 1) (gap : ℕ) (e : gap ≡ ending (drop a.end text)) where
+  module _ (below : a.count ≤ most) (gap : ℕ) (e : gap ≡ ending a.rest.now) where
     short : a.count ≤ most_frames F
     short = omega (arith, frames)
 
-    pub no_empty_line : gap ≡ 0 → reading_in F text ≡ refused F (sheet_fault F (drop a.end text))
+    pub no_empty_line : gap ≡ 0 → reading_in F text ≡ refused F (sheet_fault F a.rest.now)
     unfolding reading_in
     no_empty_line z = rw (← p.count, le-ltb (most_frames F) a.count short, ← p.rest, ← e, z)
 
-    module _ (some : gap ≡ 0 → ⊥) where
-      behind : reading_in F text ≡ read_script F (lines (frame_bytes F) (suc (most_frames F)) text) (lines script_frame_bytes (suc script_frames) (drop (a.end + gap) text))
+    -- what is left behind the empty line
+    module _ (some : 0 < gap) (behind : List ℕ) (d : behind ≡ drop gap a.rest.now) where
+      reads : reading_in F text ≡ read_script F (lines (frame_bytes F) (suc (most_frames F)) text) (lines script_frame_bytes (suc script_frames) behind)
       unfolding reading_in
-      behind = rw (← p.count, le-ltb (most_frames F) a.count short, ← p.rest, ← e, ne_eqb gap 0 some, drop-drop gap)
+      reads = rw (← p.count, le-ltb (most_frames F) a.count short, ← p.rest, ← e, ne_eqb gap 0 (omega arith), ← d)
 
-      module _ (b : Counted) (q : LinesAt script_frame_bytes text (a.end + gap) (suc script_frames) b) where
+      module _ (b : Counted) (q : LinesAt script_frame_bytes behind (suc script_frames) b) where
         pub long-script : script_frames < b.count → reading_in F text ≡ refused F long_script
-        long-script h = behind ∙ rw (← q.count, lt-ltb script_frames b.count h)
+        long-script h = reads ∙ rw (← q.count, lt-ltb script_frames b.count h)
 
-        pub bad_line : b.count ≤ script_frames → b.end < length text → reading_in F text ≡ refused F malformed
-        bad_line s h =
-            behind
-            ∙ rw (← q.count, le-ltb script_frames b.count s, ← q.rest, length-drop, lt-ltb 0 (length text - b.end) (omega arith))
+        pub bad_line : b.count ≤ script_frames → 0 < length b.rest.now → reading_in F text ≡ refused F malformed
+        bad_line s h = reads ∙ rw (← q.count, le-ltb script_frames b.count s, ← q.rest, lt-ltb 0 (length b.rest.now) h)
 
-        pub parts : b.count ≤ script_frames → length text ≤ b.end → a.end + gap ≤ length text → Parts F text a.count (a.end + gap) b.count
-        parts s h w = record {
+        pub parts : b.count ≤ script_frames → length b.rest.now ≤ 0 → Parts F text a.count behind b.count
+        parts s h = record {
           accepts =
-              behind
-              ∙ rw (← q.count, le-ltb script_frames b.count s, ← q.rest, length-drop, le-ltb 0 (length text - b.end) (omega arith))
-              (ap₂ (accepted F) (sym (counted (frame_bytes F) text 0 (suc (most_frames F)) a p)) (sym (counted script_frame_bytes text (a.end + gap) (suc script_frames) b q)));
-          sheet-lines = ap (λ (k : Lines). k.count) (counted (frame_bytes F) text 0 (suc (most_frames F)) a p) ∙ sym p.count;
-          script_lines = ap (λ (k : Lines). k.count) (counted script_frame_bytes text (a.end + gap) (suc script_frames) b q) ∙ sym q.count;
+              reads
+              ∙ rw (← q.count, le-ltb script_frames b.count s, ← q.rest, le-ltb 0 (length b.rest.now) h)
+              (ap₂ (accepted F) (sym (counted (frame_bytes F) text (suc (most_frames F)) a p)) (sym (counted script_frame_bytes behind (suc script_frames) b q)));
+          sheet-lines = ap (λ (k : Lines). k.count) (counted (frame_bytes F) text (suc (most_frames F)) a p) ∙ sym p.count;
+          script_lines = ap (λ (k : Lines). k.count) (counted script_frame_bytes behind (suc script_frames) b q) ∙ sym q.count;
           sheet-most = short;
           script_most = s;
-          within = w;
         }
 
 no_frames : (w n : ℕ) → Framed w n []
@@ -186,54 +178,41 @@ module _ (sheet script : ℕ) (text : List ℕ) where
 
 -- ---- the two ways that reading ends
 
--- a text's form is that which its first line tells
-pub form_reads : (wide : Bool) (text : List ℕ) → wide ≡ begins_wide text → reading text ≡ reading_in (form_of wide) text
+pub form_reads : (F : Form) (text : List ℕ) → F ≡ text_form text → reading text ≡ reading_in F text
 unfolding reading
-form_reads wide text e = rw e
+form_reads F text e = rw e
 
-module _ (F : Form) (text : List ℕ) (r : Layout) where
-  pub scan_refused : (n : ℕ) → r ≡ Refused n → Scanned F text r → reading_in F text ≡ refused F n
-  unfolding Scanned
-  scan_refused n e h = rw e at h
-
-  pub scan_accepted : (n start m : ℕ) → r ≡ Accepted n start m → Scanned F text r → Parts F text n start m
-  unfolding Scanned
-  scan_accepted n start m e h = rw e at h
-
-pub read_refused : (text sheet script : List ℕ) (wide : Bool) (n : ℕ) (r : Parsed) → read_into (length sheet) (length script) text ≡ refused (form_of wide) n
-    → (r.wide ≡ wide) × (r.refusal ≡ n) × (r.sheet ≡ 0) × (r.script ≡ 0) → Read text sheet script r sheet script
-read_refused text sheet script wide n r e h = record {
-  form = rw e (ap form_of h.0);
-  refusal = rw e h.1;
-  sheet-length = rw e h.2;
-  script_length = rw e h.3;
+pub read_refused : (text sheet script : List ℕ) (F : Form) (f : Fault) → read_into (length sheet) (length script) text ≡ refused F (number_of f)
+    → Read text sheet script (Err (record { form = F; fault = f })) sheet script
+read_refused text sheet script F f e = record {
+  form = rw e;
+  refusal = rw e;
+  sheet-length = rw e;
+  script_length = rw e;
   sheet-bytes = rw e;
   script_bytes = rw e;
-  sheet-fits = omega (arith, h.2);
-  script-fits = omega (arith, h.3);
+  sheet-fits = omega arith;
+  script-fits = omega arith;
 }
 
-module _ (text sheet script : List ℕ) (wide : Bool) (n start m : ℕ) (p : Parts (form_of wide) text n start m)
-    (e : read_into (length sheet) (length script) text ≡ reading_in (form_of wide) text) (a : sheet_room ≤ length sheet) (b : script_room ≤ length script) where
-  abbrev w : ℕ
-  w = frame_bytes (form_of wide)
-
+module _ (F : Form) (text behind sheet script : List ℕ) (n m : ℕ) (p : Parts F text n behind m)
+    (e : read_into (length sheet) (length script) text ≡ reading_in F text) (a : sheet_room ≤ length sheet) (b : script_room ≤ length script) where
   -- the frames' bytes, and that there is room for them
-  sheet-size : length (lines w n text).frames ≡ n * w
-  sheet-size = frames-length w n text ∙ ap (λ (k : ℕ). k * w) p.sheet-lines
+  sheet-size : length (lines (frame_bytes F) n text).frames ≡ n * frame_bytes F
+  sheet-size = frames-length (frame_bytes F) n text ∙ ap (λ (k : ℕ). k * frame_bytes F) p.sheet-lines
 
-  script_size : length (lines script_frame_bytes m (drop start text)).frames ≡ m * script_frame_bytes
-  script_size = frames-length script_frame_bytes m (drop start text) ∙ ap (λ (k : ℕ). k * script_frame_bytes) p.script_lines
+  script_size : length (lines script_frame_bytes m behind).frames ≡ m * script_frame_bytes
+  script_size = frames-length script_frame_bytes m behind ∙ ap (λ (k : ℕ). k * script_frame_bytes) p.script_lines
 
-  pub read_accepted : (size : ℕ) → size ≡ w → (sheet' script' : List ℕ) → sheet' ≡ sets sheet 0 (lines size n text).frames → script' ≡ sets script 0 (lines script_frame_bytes m (drop start text)).frames
-      → Read text sheet script (record { wide = wide; refusal = 0; sheet = n * size; script = m * script_frame_bytes }) sheet' script'
+  pub read_accepted : (size : ℕ) → size ≡ frame_bytes F → (sheet' script' : List ℕ) → sheet' ≡ sets sheet 0 (lines size n text).frames → script' ≡ sets script 0 (lines script_frame_bytes m behind).frames
+      → Read text sheet script (Ok (record { form = F; sheet = n * size; script = m * script_frame_bytes })) sheet' script'
   read_accepted size d sheet' script' f g = record {
     form = rw (e, p.accepts);
     refusal = rw (e, p.accepts);
     sheet-length = rw (e, p.accepts, d) (sym sheet-size);
     script_length = rw (e, p.accepts) (sym script_size);
-    sheet-bytes = rw (e, p.accepts) (rw d at f ∙ sets-start (lines w n text).frames sheet (omega (arith, sheet-size, sheet-room (form_of wide) n p.sheet-most)));
-    script_bytes = rw (e, p.accepts) (g ∙ sets-start (lines script_frame_bytes m (drop start text)).frames script (omega (arith, script_size, p.script_most)));
-    sheet-fits = rw d (sheet-room (form_of wide) n p.sheet-most);
+    sheet-bytes = rw (e, p.accepts) (rw d at f ∙ sets-start (lines (frame_bytes F) n text).frames sheet (omega (arith, sheet-size, sheet-room F n p.sheet-most)));
+    script_bytes = rw (e, p.accepts) (g ∙ sets-start (lines script_frame_bytes m behind).frames script (omega (arith, script_size, p.script_most)));
+    sheet-fits = rw d (sheet-room F n p.sheet-most);
     script-fits = omega (arith, p.script_most);
   }

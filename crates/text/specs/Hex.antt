@@ -1,10 +1,14 @@
 -- Hexadecimal digits as the text has them: what a byte is worth as a digit, and which byte a digit is written as. Assumes nothing.
-use Rattle.std.specs.Prelude.{ℕ, zero, suc, ◌+◌, ◌-◌, ◌/◌, ◌%◌, cond, ◌&&◌, List, [], ◌∷◌, ◌++◌, leb, ltb, take, drop}
+use Rattle.std.specs.Prelude.{ℕ, zero, suc, ◌+◌, ◌-◌, ◌/◌, ◌%◌, Bool, cond, ◌&&◌, List, [], ◌∷◌, ◌++◌, leb, ltb, take, drop}
 
 -- the value of a digit 0-9, A-F or a-f, and 16 for a byte that is no digit
 unfoldable pub digit_value : ℕ → ℕ
 digit_value b =
     cond (leb 48 b && leb b 57) (b - 48) (cond (leb 65 b && leb b 70) (b - 55) (cond (leb 97 b && leb b 102) (b - 87) 16))
+
+-- whether a byte is a digit
+abbrev pub is_digit : ℕ → Bool
+is_digit b = ltb (digit_value b) 16
 
 -- the byte that a digit of this value is written as, in capitals
 unfoldable pub digit_byte : ℕ → ℕ

@@ -1,6 +1,6 @@
 -- A line of the text: two digits for each byte of its frame and what ends the line. Each definition takes what is left of the text; w is how many bytes
 -- the line's frame has. Assumes nothing.
-use Rattle.std.specs.Prelude.{ℕ, zero, suc, ◌+◌, ◌*◌, ◌≤◌, ◌<◌, Bool, true, cond, ◌&&◌, List, [], ◌∷◌, ◌++◌, eqb, ltb, ◌≡◌, length, get_or, drop}
+use Rattle.std.specs.Prelude.{ℕ, zero, suc, ◌+◌, ◌*◌, ◌<◌, Bool, true, cond, ◌&&◌, List, [], ◌∷◌, ◌++◌, eqb, ltb, ◌≡◌, get_or, drop}
 use Rattle.text.specs.Hex.{digit_value, line_feed, carriage_return}
 use Rattle.text.specs.declared.line.Counted.{Counted}
 
@@ -55,8 +55,7 @@ unfoldable pub lines : ℕ → ℕ → List ℕ → Lines
 lines w zero l = no_lines l
 lines w (suc most) l = cond (ltb 0 (line_size w l)) (line_then w l (lines w most (drop (line_size w l) l))) (no_lines l)
 
--- what counting the lines of a text from a place on gives
-pub record LinesAt (w : ℕ) (text : List ℕ) (from most : ℕ) (r : Counted) : Type 0 where
-  pub count : r.count ≡ (lines w most (drop from text)).count
-  pub rest : drop r.end text ≡ (lines w most (drop from text)).rest
-  pub within : r.end ≤ length text
+-- what counting the lines of a text gives
+pub record LinesAt (w : ℕ) (text : List ℕ) (most : ℕ) (r : Counted) : Type 0 where
+  pub count : r.count ≡ (lines w most text).count
+  pub rest : r.rest.now ≡ (lines w most text).rest

@@ -1,13 +1,15 @@
 -- What a text reads to: its form, and a refusal or the bytes of a sheet and of a script. Assumes nothing.
-use Rattle.std.specs.Prelude.{ℕ, suc, ◌*◌, ◌≤◌, Bool, cond, ◌||◌, List, [], ◌++◌, ◌≡◌, eqb, ltb, length, drop}
+use Rattle.std.specs.Prelude.{Result, Ok, Err, ℕ, suc, ◌*◌, ◌≤◌, Bool, cond, ◌||◌, List, [], ◌++◌, ◌≡◌, eqb, ltb, length, drop}
 use Rattle.form.specs.Form.{form_of, frame_bytes, most_frames}
 use Rattle.form.specs.declared.Form.{Form}
 use Rattle.form.specs.declared.Form.TheVariants.{Narrow, Wide}
 use Rattle.sheet.specs.Refusal as Number
+use Rattle.sheet.specs.Told.{number_of}
+use Rattle.sheet.specs.declared.refusal.Fault.{Fault}
 use Rattle.text.specs.Line.{Lines, lines, line_size, ending}
 use Rattle.text.specs.declared.Parsed.{Parsed}
+use Rattle.text.specs.declared.Unread.{Unread}
 use Rattle.text.specs.declared.layout.Layout.{Layout}
-use Rattle.text.specs.declared.layout.Layout.TheVariants.{Refused, Accepted}
 
 -- the most frames of a script, and the bytes of each, in either form
 abbrev pub script_frames : ℕ
@@ -97,27 +99,44 @@ read_into sheet script text =
 abbrev pub written_over : List ℕ → List ℕ → List ℕ
 written_over written buffer = written ++ drop (length written) buffer
 
--- where an accepted text of a form has its parts: the lines of the sheet, where the script's lines start, and how many they are
-pub record Parts (F : Form) (text : List ℕ) (sheet start script : ℕ) : Type 0 where
-  pub accepts : reading_in F text ≡ accepted F (lines (frame_bytes F) sheet text) (lines script_frame_bytes script (drop start text))
+-- where an accepted text of a form has its parts: how many lines the sheet has, what is left of the text behind the empty line, and how many lines the script has
+pub record Parts (F : Form) (text : List ℕ) (sheet : ℕ) (behind : List ℕ) (script : ℕ) : Type 0 where
+  pub accepts : reading_in F text ≡ accepted F (lines (frame_bytes F) sheet text) (lines script_frame_bytes script behind)
   pub sheet-lines : (lines (frame_bytes F) sheet text).count ≡ sheet
-  pub script_lines : (lines script_frame_bytes script (drop start text)).count ≡ script
+  pub script_lines : (lines script_frame_bytes script behind).count ≡ script
   pub sheet-most : sheet ≤ most_frames F
   pub script_most : script ≤ script_frames
-  pub within : start ≤ length text
 
 -- what going through a text of a form finds
-unfoldable pub Scanned : Form → List ℕ → Layout → Type 0
-Scanned F text (Refused n) = reading_in F text ≡ refused F n
-Scanned F text (Accepted sheet start script) = Parts F text sheet start script
+abbrev pub Scanned : Form → List ℕ → Result Layout Fault → Type 0
+Scanned F text (Err f) = reading_in F text ≡ refused F (number_of f)
+Scanned F text (Ok at) = Parts F text at.sheet at.behind.now at.script
+
+-- ---- what reading a text gives, by what is told of it: its form, the number of why it is refused or 0, and how many bytes of the two parts it wrote
+
+abbrev pub form_told : Result Parsed Unread → Form
+form_told (Ok p) = p.form
+form_told (Err u) = u.form
+
+abbrev pub refusal_told : Result Parsed Unread → ℕ
+refusal_told (Ok p) = 0
+refusal_told (Err u) = number_of u.fault
+
+abbrev pub sheet_told : Result Parsed Unread → ℕ
+sheet_told (Ok p) = p.sheet
+sheet_told (Err u) = 0
+
+abbrev pub script_told : Result Parsed Unread → ℕ
+script_told (Ok p) = p.script
+script_told (Err u) = 0
 
 -- what reading a text leaves: the answer r, and the two buffers, that were sheet and script before
-pub record Read (text sheet script : List ℕ) (r : Parsed) (sheet' script' : List ℕ) : Type 0 where
-  pub form : form_of r.wide ≡ (read_into (length sheet) (length script) text).form
-  pub refusal : r.refusal ≡ (read_into (length sheet) (length script) text).refusal
-  pub sheet-length : r.sheet ≡ length (read_into (length sheet) (length script) text).sheet
-  pub script_length : r.script ≡ length (read_into (length sheet) (length script) text).script
+pub record Read (text sheet script : List ℕ) (r : Result Parsed Unread) (sheet' script' : List ℕ) : Type 0 where
+  pub form : form_told r ≡ (read_into (length sheet) (length script) text).form
+  pub refusal : refusal_told r ≡ (read_into (length sheet) (length script) text).refusal
+  pub sheet-length : sheet_told r ≡ length (read_into (length sheet) (length script) text).sheet
+  pub script_length : script_told r ≡ length (read_into (length sheet) (length script) text).script
   pub sheet-bytes : sheet' ≡ written_over (read_into (length sheet) (length script) text).sheet sheet
   pub script_bytes : script' ≡ written_over (read_into (length sheet) (length script) text).script script
-  pub sheet-fits : r.sheet ≤ sheet_room
-  pub script-fits : r.script ≤ script_room
+  pub sheet-fits : sheet_told r ≤ sheet_room
+  pub script-fits : script_told r ≤ script_room

@@ -1,47 +1,41 @@
-// The frames of a text's lines, written as bytes.
-ghost use Rattle.std.specs.Prelude.{◌≡◌, true, ◌+◌, ◌*◌, ◌≤◌, ◌<◌, length, drop};
+// The frames of a text's lines, written as bytes. Each function takes what is left of the text.
+ghost use Rattle.std.specs.Prelude.{◌≡◌, true, ◌+◌, ◌*◌, ◌≤◌, ◌<◌, length};
 ghost use Rattle.std.proofs.lemmas.List.Edits.{sets};
 ghost use Rattle.text.specs.Line.{TwoDigits, byte_here, bytes, digits, lines};
 
 use crate::hex::digit_value;
-use crate::line::{byte_at, line_size};
+use crate::line::line_size;
 
 // The byte that two digits give.
-fn byte(text: &[u8], at: usize) -> u8
-    requires { (at < length text.now) × TwoDigits (drop at text.now) }
-    ensures { result ≡ byte_here (drop at text.now) }
+fn byte(rest: &[u8]) -> u8
+    requires { TwoDigits rest.now }
+    ensures { result ≡ byte_here rest.now }
 {
-    digit_value(byte_at(text, at)) * 16 + digit_value(byte_at(text, at + 1))
+    let high = digit_value(rest[0]).unwrap();
+    let low = digit_value(rest[1]).unwrap();
+    high * 16 + low
 }
 
-// Writes the `count` bytes that the digits at a place give.
-fn put_bytes(text: &[u8], from: usize, count: usize, out: &mut [u8], place: usize)
-    requires { (from + 2 * count ≤ length text.now) × (digits (2 * count) (drop from text.now) ≡ true) × (place + count ≤ length out.old) }
-    ensures { out.new ≡ sets out.old place (bytes count (drop from text.now)) }
+// Fills `out` with the bytes that the next digits give.
+fn put_bytes(rest: &[u8], out: &mut [u8])
+    requires { digits (2 * length out.old) rest.now ≡ true }
+    ensures { out.new ≡ bytes (length out.old) rest.now }
 {
-    let mut i: usize = 0;
-    let mut at = from;
-    let mut to = place;
-    while i < count {
-        out[to] = byte(text, at);
-        i += 1;
-        at += 2;
-        to += 1;
+    for (i, b) in out.iter_mut().enumerate() {
+        *b = byte(&rest[2 * i..]);
     }
 }
 
-// Writes the frames, of `size` bytes each, of `count` lines that stand in a row from a place on.
-pub fn put_frames(text: &[u8], from: usize, size: usize, count: usize, out: &mut [u8])
-    requires { (from ≤ length text.now) × (size ≤ 16) × ((lines size count (drop from text.now)).count ≡ count) × (count * size ≤ length out.old) }
-    ensures { out.new ≡ sets out.old 0 (lines size count (drop from text.now)).frames }
+// Writes the frames, of `size` bytes each, of `count` lines that stand in a row.
+pub fn put_frames(text: &[u8], size: usize, count: usize, out: &mut [u8])
+    requires { (size ≤ 16) × ((lines size count text.now).count ≡ count) × (count * size ≤ length out.old) }
+    ensures { out.new ≡ sets out.old 0 (lines size count text.now).frames }
 {
-    let mut i: usize = 0;
-    let mut at = from;
-    let mut to: usize = 0;
-    while i < count {
-        put_bytes(text, at, size, out, to);
-        i += 1;
-        at += line_size(text, at, size);
-        to += size;
+    let mut rest = text;
+    for i in 0..count {
+        let to = i * size;
+        put_bytes(rest, &mut out[to..to + size]);
+        let bytes = line_size(rest, size).unwrap();
+        rest = &rest[bytes..];
     }
 }

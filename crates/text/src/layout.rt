@@ -1,34 +1,35 @@
 // A text's form, where it has its two parts, and its first fault.
-ghost use Rattle.std.specs.Prelude.{◌≡◌, ◌≤◌, length, drop};
+ghost use Rattle.std.specs.Prelude.{◌≡◌};
+ghost use Rattle.sheet.specs.Told.{number_of};
 ghost use Rattle.text.specs.Reading as Spec;
-ghost use Rattle.text.specs.Reading.{begins_wide, Scanned};
+ghost use Rattle.text.specs.Reading.{text_form, Scanned};
 
 use crate::line;
 use form::Form;
-use sheet::refusal;
+use sheet::refusal::Fault;
 
 pub const SCRIPT_FRAMES: usize = 1000;
 
 // The bytes of a script's frame, in either form.
 pub const SCRIPT_FRAME_BYTES: usize = 4;
 
-// Where an accepted text has its parts, or why it is refused.
+// Where an accepted text has its parts: how many lines the sheet has, and where the script's lines stand and how many they are.
 #[derive(Clone, Copy)]
-pub enum Layout {
-    Refused(u8),
-    // How many lines the sheet has, where the script's lines start, and how many they are.
-    Accepted {
-        sheet: usize,
-        start: usize,
-        script: usize,
-    },
+pub struct Layout<'a> {
+    pub sheet: usize,
+    pub behind: &'a [u8],
+    pub script: usize,
 }
 
-// Whether a text is wide: whether it begins with an ended line of fourteen digits.
-pub fn wide(text: &[u8]) -> bool
-    ensures { result ≡ begins_wide text.now }
+// A text is wide if it begins with an ended line of fourteen digits.
+#[tactic(auto, using(std::proofs::lemmas::Bool::Decides::nat_tests), unfolding(crate::specs::Reading::begins_wide))]
+pub fn form_of(text: &[u8]) -> Form
+    ensures { result ≡ text_form text.now }
 {
-    0 < line::line_size(text, 0, form::frame_bytes(Form::Wide))
+    match line::line_size(text, form::frame_bytes(Form::Wide)) {
+        Some(_) => Form::Wide,
+        None => Form::Narrow,
+    }
 }
 
 fn other(form: Form) -> Form
@@ -41,40 +42,39 @@ fn other(form: Form) -> Form
 }
 
 // What is told where neither one more line of the sheet nor the empty line stands.
-fn sheet_fault(text: &[u8], at: usize, form: Form) -> u8
-    requires { at ≤ length text.now }
-    ensures { result ≡ Spec.sheet_fault form (drop at text.now) }
+#[tactic(auto, using(std::proofs::lemmas::Bool::Decides::nat_tests), unfolding(crate::specs::Reading::sheet_fault))]
+fn sheet_fault(rest: &[u8], form: Form) -> Fault
+    ensures { number_of result ≡ Spec.sheet_fault form rest.now }
 {
-    if 0 < line::line_size(text, at, form::frame_bytes(other(form))) {
-        return refusal::OTHER_FORM;
+    match line::line_size(rest, form::frame_bytes(other(form))) {
+        Some(_) => Fault::OtherForm,
+        None => Fault::TextShape,
     }
-    refusal::TEXT_SHAPE
 }
 
 // Goes through a text of a form, writing nothing.
-pub fn scan(text: &[u8], form: Form) -> Layout
+pub fn scan<'a>(text: &'a [u8], form: Form) -> Result<Layout<'a>, Fault>
     ensures { Scanned form text.now result }
 {
-    let past = form::most_frames(form) + 1;
-    let first = line::lines(text, 0, form::frame_bytes(form), past);
-    if past <= first.count {
-        return Layout::Refused(refusal::SHEET_TOO_LONG);
+    let most = form::most_frames(form);
+    let sheet = line::lines(text, form::frame_bytes(form), most + 1);
+    if most < sheet.count {
+        return Err(Fault::SheetTooLong);
     }
-    let gap = line::ending(text, first.end);
-    if gap == 0 {
-        return Layout::Refused(sheet_fault(text, first.end, form));
+    let Some(gap) = line::ending(sheet.rest) else {
+        return Err(sheet_fault(sheet.rest, form));
+    };
+    let behind = &sheet.rest[gap..];
+    let script = line::lines(behind, SCRIPT_FRAME_BYTES, SCRIPT_FRAMES + 1);
+    if SCRIPT_FRAMES < script.count {
+        return Err(Fault::ScriptTooLong);
     }
-    let start = first.end + gap;
-    let second = line::lines(text, start, SCRIPT_FRAME_BYTES, SCRIPT_FRAMES + 1);
-    if SCRIPT_FRAMES < second.count {
-        return Layout::Refused(refusal::SCRIPT_TOO_LONG);
+    if !script.rest.is_empty() {
+        return Err(Fault::TextShape);
     }
-    if second.end < text.len() {
-        return Layout::Refused(refusal::TEXT_SHAPE);
-    }
-    Layout::Accepted {
-        sheet: first.count,
-        start,
-        script: second.count,
-    }
+    Ok(Layout {
+        sheet: sheet.count,
+        behind,
+        script: script.count,
+    })
 }

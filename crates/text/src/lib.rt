@@ -7,21 +7,25 @@ mod layout;
 mod line;
 mod record;
 
-ghost use Rattle.std.specs.Prelude.{◌≡◌};
 ghost use Rattle.text.specs.Reading.{Read};
 ghost use Rattle.text.specs.Answer.{Wrote, WroteFrames};
 
 use form::Form;
-use layout::Layout;
-use sheet::refusal;
+use sheet::refusal::Fault;
 
-// What reading a text gives: whether it is wide, a refusal's number or 0, and how many bytes of a sheet and of a script it wrote, 0 if refused.
+// The form of a text that is read, and how many bytes of a sheet and of a script it wrote. (The buffers are the caller's: there is no heap.)
 #[derive(Clone, Copy)]
 pub struct Parsed {
-    pub wide: bool,
-    pub refusal: u8,
+    pub form: Form,
     pub sheet: usize,
     pub script: usize,
+}
+
+// Why a text is refused, and the form that it is told in.
+#[derive(Clone, Copy)]
+pub struct Unread {
+    pub form: Form,
+    pub fault: Fault,
 }
 
 // The least lengths of the buffers: what the longest wide sheet and the longest script take.
@@ -29,88 +33,43 @@ pub const SHEET_BYTES: usize = 21000;
 
 pub const SCRIPT_BYTES: usize = layout::SCRIPT_FRAMES * layout::SCRIPT_FRAME_BYTES;
 
-// The bytes of an answer, and of its line, in either form.
-pub const ANSWER_BYTES: usize = 6;
-
-pub const LINE_BYTES: usize = 2 * ANSWER_BYTES + 1;
-
-pub const WIDE_ANSWER_BYTES: usize = 10;
-
-pub const WIDE_LINE_BYTES: usize = 2 * WIDE_ANSWER_BYTES + 1;
-
-// The bytes of a sheet's frame.
-const FRAME_BYTES: usize = 4;
-
-const WIDE_FRAME_BYTES: usize = 7;
-
-// A refusal: nothing is written.
-fn refused(wide: bool, number: u8) -> Parsed
-    ensures { (result.wide ≡ wide) × (result.refusal ≡ number) × (result.sheet ≡ 0) × (result.script ≡ 0) }
-{
-    Parsed {
-        wide,
-        refusal: number,
-        sheet: 0,
-        script: 0,
-    }
-}
-
 // Reads a text into the two buffers. Nothing is written before all of the text is known to be right.
-pub fn read(text: &[u8], sheet: &mut [u8], script: &mut [u8]) -> Parsed
+pub fn read(text: &[u8], sheet: &mut [u8], script: &mut [u8]) -> Result<Parsed, Unread>
     ensures { Read text.now sheet.old script.old result sheet.new script.new }
 {
-    if sheet.len() < SHEET_BYTES {
-        return refused(false, refusal::NO_ROOM);
+    if sheet.len() < SHEET_BYTES || script.len() < SCRIPT_BYTES {
+        return Err(Unread {
+            form: Form::Narrow,
+            fault: Fault::NoRoom,
+        });
     }
-    if script.len() < SCRIPT_BYTES {
-        return refused(false, refusal::NO_ROOM);
-    }
-    let wide = layout::wide(text);
-    let form = form::of(wide);
-    match layout::scan(text, form) {
-        Layout::Refused(number) => refused(wide, number),
-        Layout::Accepted {
-            sheet: lines,
-            start,
-            script: more,
-        } => {
-            let size = form::frame_bytes(form);
-            frame::put_frames(text, 0, size, lines, sheet);
-            frame::put_frames(text, start, layout::SCRIPT_FRAME_BYTES, more, script);
-            Parsed {
-                wide,
-                refusal: 0,
-                sheet: lines * size,
-                script: more * layout::SCRIPT_FRAME_BYTES,
-            }
-        }
-    }
+    let form = layout::form_of(text);
+    let layout = layout::scan(text, form).map_err(|fault| Unread { form, fault })?;
+    let size = form::frame_bytes(form);
+    frame::put_frames(text, size, layout.sheet, sheet);
+    frame::put_frames(
+        layout.behind,
+        layout::SCRIPT_FRAME_BYTES,
+        layout.script,
+        script,
+    );
+    Ok(Parsed {
+        form,
+        sheet: layout.sheet * size,
+        script: layout.script * layout::SCRIPT_FRAME_BYTES,
+    })
 }
 
-// Writes the lines of as many frames as are whole and have room, and says how many bytes that are.
-pub fn frame_lines(frames: &[u8], out: &mut [u8]) -> usize
-    ensures { WroteFrames Form.Narrow frames.now out.old result out.new }
+// Writes the lines of as many frames of a sheet as are whole and have room, and says how many bytes that are.
+pub fn frame_lines(frames: &[u8], form: Form, out: &mut [u8]) -> usize
+    ensures { WroteFrames form frames.now out.old result out.new }
 {
-    record::record_lines(frames, FRAME_BYTES, out)
-}
-
-// The same of wide frames.
-pub fn frame_lines_wide(frames: &[u8], out: &mut [u8]) -> usize
-    ensures { WroteFrames Form.Wide frames.now out.old result out.new }
-{
-    record::record_lines(frames, WIDE_FRAME_BYTES, out)
+    record::record_lines(frames, form::frame_bytes(form), out)
 }
 
 // Writes the lines of as many answers as are whole and have room, and says how many bytes that are.
-pub fn answer_lines(answers: &[u8], out: &mut [u8]) -> usize
-    ensures { Wrote Form.Narrow answers.now out.old result out.new }
+pub fn answer_lines(answers: &[u8], form: Form, out: &mut [u8]) -> usize
+    ensures { Wrote form answers.now out.old result out.new }
 {
-    record::record_lines(answers, ANSWER_BYTES, out)
-}
-
-// The same of a wide sheet's answers.
-pub fn answer_lines_wide(answers: &[u8], out: &mut [u8]) -> usize
-    ensures { Wrote Form.Wide answers.now out.old result out.new }
-{
-    record::record_lines(answers, WIDE_ANSWER_BYTES, out)
+    record::record_lines(answers, form::answer_bytes(form), out)
 }

@@ -1,91 +1,62 @@
 // The lines of a text: where they end, and how many stand in a row. What ends a line is told by `ending` alone. A line has two digits for each byte of
-// its frame, and `size` is the number of these bytes.
-ghost use Rattle.std.specs.Prelude.{◌≡◌, ◌+◌, ◌≤◌, ◌<◌, length, drop};
-ghost use Rattle.text.specs.Line.{head, ending, digits, line_size, LinesAt};
+// its frame, and `size` is the number of these bytes. Each function takes what is left of the text.
+ghost use Rattle.std.specs.Prelude.{◌≡◌, ◌<◌, ◌≤◌, IfSome, unwrap_or};
+ghost use Rattle.text.specs.Line.{ending, digits, line_size, LinesAt};
 
-use crate::hex::digit_value;
+use crate::hex::is_digit;
 
-// Lines in a row: how many, and where they end.
+// Lines in a row: how many, and what is left of the text behind them.
 #[derive(Clone, Copy)]
-pub struct Counted {
+pub struct Counted<'a> {
     pub count: usize,
-    pub end: usize,
+    pub rest: &'a [u8],
 }
 
-// The byte at a place, 0 past the end.
-pub fn byte_at(text: &[u8], at: usize) -> u8
-    ensures { result ≡ head (drop at text.now) }
+// How many bytes end a line here, 0A or 0D 0A; `None` where no line ends.
+#[tactic(auto, using(std::proofs::lemmas::Bool::Decides::nat_tests), unfolding(crate::specs::Line::ending))]
+pub fn ending(rest: &[u8]) -> Option<usize>
+    ensures size { unwrap_or result 0 ≡ ending rest.now }
+    ensures some { IfSome result (λ n. 0 < n) }
 {
-    if at < text.len() {
-        return text[at];
+    match rest {
+        [b'\n', ..] => Some(1),
+        [b'\r', b'\n', ..] => Some(2),
+        _ => None,
     }
-    0
 }
 
-// How many bytes at a place end a line, 0A or 0D 0A; 0 where no line ends there.
-pub fn ending(text: &[u8], at: usize) -> usize
-    ensures { result ≡ ending (drop at text.now) }
+// Whether the next `count` bytes are digits.
+fn digits(rest: &[u8], count: usize) -> bool
+    ensures { result ≡ digits count rest.now }
 {
-    let first = byte_at(text, at);
-    if first == b'\n' {
-        return 1;
-    }
-    if first != b'\r' {
-        return 0;
-    }
-    if byte_at(text, at + 1) == b'\n' {
-        return 2;
-    }
-    0
+    count <= rest.len() && rest[..count].iter().all(|b| is_digit(*b))
 }
 
-// Whether `count` digits stand at a place.
-fn digits(text: &[u8], from: usize, count: usize) -> bool
-    requires { (from ≤ length text.now) × (count < 256) }
-    ensures { result ≡ digits count (drop from text.now) }
-{
-    let mut i: usize = 0;
-    let mut at = from;
-    while i < count {
-        if digit_value(byte_at(text, at)) >= 16 {
-            return false;
-        }
-        i += 1;
-        at += 1;
-    }
-    true
-}
-
-// How many bytes the line at a place takes, 0 where it is not the digits of `size` bytes and a line's end.
-pub fn line_size(text: &[u8], at: usize, size: usize) -> usize
-    requires { (at ≤ length text.now) × (size ≤ 16) }
-    ensures { result ≡ line_size size (drop at text.now) }
+// How many bytes the line here takes; `None` where it is not the digits of `size` bytes and a line's end.
+pub fn line_size(rest: &[u8], size: usize) -> Option<usize>
+    requires { size ≤ 16 }
+    ensures size { unwrap_or result 0 ≡ line_size size rest.now }
+    ensures some { IfSome result (λ n. 0 < n) }
 {
     let count = 2 * size;
-    if !digits(text, at, count) {
-        return 0;
+    if !digits(rest, count) {
+        return None;
     }
-    let end = ending(text, at + count);
-    if end == 0 {
-        return 0;
-    }
-    count + end
+    let end = ending(&rest[count..])?;
+    Some(count + end)
 }
 
-// The lines that stand in a row from a place on, `most` at most.
-pub fn lines(text: &[u8], from: usize, size: usize, most: usize) -> Counted
-    requires { (from ≤ length text.now) × (size ≤ 16) }
-    ensures { LinesAt size text.now from most result }
+// The lines that stand here in a row, `most` at most.
+pub fn lines<'a>(text: &'a [u8], size: usize, most: usize) -> Counted<'a>
+    requires { size ≤ 16 }
+    ensures { LinesAt size text.now most result }
 {
-    let mut count: usize = 0;
-    let mut end = from;
-    while count < most {
-        let bytes = line_size(text, end, size);
-        if bytes == 0 {
-            return Counted { count, end };
-        }
-        count += 1;
-        end += bytes;
+    let mut rest = text;
+    for count in 0..most {
+        let Some(bytes) = line_size(rest, size) else {
+            return Counted { count, rest };
+        };
+        rest = &rest[bytes..];
     }
-    Counted { count, end }
+    Counted { count: most, rest }
 }

@@ -1,17 +1,8 @@
 // The lines of as many records as have room: answers or frames, of either form.
-ghost use Rattle.std.specs.Prelude.{◌≡◌, min, ◌<◌, ◌≤◌};
+ghost use Rattle.std.specs.Prelude.{◌<◌, ◌≤◌};
 ghost use Rattle.text.specs.Answer.{WroteLines};
 
 use crate::hex::put_lines;
-
-fn lesser(a: usize, b: usize) -> usize
-    ensures { result ≡ min a b }
-{
-    if a <= b {
-        return a;
-    }
-    b
-}
 
 // Writes the lines of as many records of `size` bytes as are whole and have room, and says how many bytes that are.
 pub fn record_lines(records: &[u8], size: usize, out: &mut [u8]) -> usize
@@ -19,7 +10,7 @@ pub fn record_lines(records: &[u8], size: usize, out: &mut [u8]) -> usize
     ensures { WroteLines size records.now out.old result out.new }
 {
     let line = 2 * size + 1;
-    let n = lesser(records.len() / size, out.len() / line);
+    let n = (records.len() / size).min(out.len() / line);
     put_lines(records, size, n, out);
     n * line
 }

@@ -1,11 +1,11 @@
 -- From what reading and writing give to what is printed: the laws that the program goes by. Assumes nothing.
-use Rattle.std.specs.Prelude.{ℕ, ◌*◌, ◌≤◌, ◌<◌, List, ◌++◌, ◌≡◌, length, take, drop}
+use Rattle.std.specs.Prelude.{Result, ℕ, ◌*◌, ◌≤◌, ◌<◌, List, ◌++◌, ◌≡◌, length, take, drop}
 use Rattle.std.proofs.Math.Nat.{min-eq_left}
 use Rattle.std.proofs.Common.{arith, sym, ◌∙◌, length-append, take_at, length-take-le, eq-eqb, ne_eqb, le-ltb}
 use Rattle.std.proofs.Math.Path.{refl, ap, ap₂}
 use Rattle.words.proofs.Logic.{by_bool}
 use Rattle.form.specs.Form as Sizes
-use Rattle.form.specs.Form.{form_of, frame_bytes, frame_start}
+use Rattle.form.specs.Form.{frame_bytes, frame_start}
 use Rattle.form.specs.declared.Form.{Form}
 use Rattle.form.specs.declared.Form.TheVariants.{Narrow, Wide}
 use Rattle.sheet.specs.Cause.{Refusal, first, some_holds}
@@ -14,11 +14,12 @@ use Rattle.sheet.specs.Fields.{Sheet, sheet_of, frames, most_frames}
 use Rattle.sheet.specs.Rules.{sheet_causes, sheet_refusal}
 use Rattle.sheet.proofs.RuleLaws.{sheet_numbered}
 use Rattle.sheet.specs.Keeps.{Keeps}
-use Rattle.sheet.proofs.Accepted.{none-keeps}
+use Rattle.sheet.proofs.AcceptedLaws.{none-keeps}
 use Rattle.sheet.proofs.Places.{sheet_small}
 use Rattle.text.specs.declared.Parsed.{Parsed}
+use Rattle.text.specs.declared.Unread.{Unread}
 use Rattle.text.specs.Hex.{hex_line, hex_lines}
-use Rattle.text.specs.Reading.{sheet_room, script_room, Reading, reading, read_into, written_over, Read}
+use Rattle.text.specs.Reading.{sheet_room, script_room, Reading, reading, read_into, written_over, form_told, refusal_told, sheet_told, Read}
 use Rattle.text.proofs.ReadingLaws.{enough-room}
 use Rattle.text.specs.Answer.{line_bytes, answer_lines, with_room, Wrote, WroteFrames, WroteLines}
 use Rattle.text.proofs.LineStores.{lines-length}
@@ -121,29 +122,29 @@ module _ {s : Sheet} {buffer buffer' : List ℕ} {number place size : ℕ} (g : 
 
 -- ---- a text
 
-module _ {text sheet script sheet' script' : List ℕ} {r : Parsed} (g : Read text sheet script r sheet' script')
+module _ {text sheet script sheet' script' : List ℕ} {r : Result Parsed Unread} (g : Read text sheet script r sheet' script')
     (a : sheet_room ≤ length sheet) (b : script_room ≤ length script) where
   reads : read_into (length sheet) (length script) text ≡ reading text
   reads = enough-room (length sheet) (length script) text a b
 
-  form-is : form_of r.wide ≡ (reading text).form
+  form-is : form_told r ≡ (reading text).form
   form-is = g.form ∙ ap (λ (k : Reading). k.form) reads
 
-  refusal_is : r.refusal ≡ (reading text).refusal
+  refusal_is : refusal_told r ≡ (reading text).refusal
   refusal_is = g.refusal ∙ ap (λ (k : Reading). k.refusal) reads
 
-  pub sheet-begins : Begins (reading text).sheet sheet' r.sheet
+  pub sheet-begins : Begins (reading text).sheet sheet' (sheet_told r)
   sheet-begins =
       let e = ap (λ (k : Reading). k.sheet) reads in
       begins (reading text).sheet (drop (length (reading text).sheet) sheet) (g.sheet-bytes ∙ ap (λ (x : List ℕ). written_over x sheet) e) (g.sheet-length ∙ ap length e)
 
-  pub text_refused : (r.refusal ≡ 0 → ⊥) → refusal_line (form_of r.wide) r.refusal 0 ≡ printed text
+  pub text_refused : (refusal_told r ≡ 0 → ⊥) → refusal_line (form_told r) (refusal_told r) 0 ≡ printed text
   unfolding printed
   text_refused h =
       ap₂ (λ (F : Form) (n : ℕ). refusal_line F n 0) form-is refusal_is
       ∙ rw (ne_eqb (reading text).refusal 0 (λ z. h (refusal_is ∙ z)))
 
-  pub text_read : r.refusal ≡ 0 → printed_sheet (sheet_of (form_of r.wide) (take r.sheet sheet')) ≡ printed text
+  pub text_read : refusal_told r ≡ 0 → printed_sheet (sheet_of (form_told r) (take (sheet_told r) sheet')) ≡ printed text
   unfolding printed
   text_read h =
       ap printed_sheet (ap₂ sheet_of form-is sheet-begins.bytes)

@@ -3,11 +3,14 @@
 
 ghost use Rattle.std.specs.Prelude.{◌≡◌, ◌<◌, ◌≤◌, length, OnOk, IfSome};
 ghost use Rattle.std.specs.Io.KnownBytes.{Appends};
-ghost use Rattle.form.specs.Form.{form_of};
-ghost use Rattle.sheet.specs.Fields.{sheet_of, narrow, wide};
+ghost use Rattle.form.specs.Form.{most_frames};
+ghost use Rattle.sheet.specs.Fields.{sheet_of};
+ghost use Rattle.sheet.specs.Told.{number_of};
 ghost use Rattle.to_normal.specs.Printed.{refusal_line, printed_sheet, printed, Begins};
+ghost use Rattle.to_normal.specs.PrintedLaws.{normal_room};
 
 use form::Form;
+use sheet::refusal::Refused;
 use std::io;
 use std::io::{Read, Write};
 
@@ -23,62 +26,28 @@ const WIDE_NORMAL_BYTES: usize = 21000;
 const LINES_BYTES: usize = 45000;
 
 // Writes the line of a refusal, which has as many bytes as an answer.
-fn refuse(number: u8, place: u8, out: &mut [u8]) -> usize
-    requires { 45000 ≤ length out.old }
-    ensures { Begins (refusal_line Form.Narrow number place) out.new result }
+fn refuse(form: Form, refused: Refused, out: &mut [u8]) -> usize
+    requires { (refused.place < most_frames form) × (45000 ≤ length out.old) }
+    ensures { Begins (refusal_line form (number_of refused.fault) refused.place) out.new result }
 {
-    let answer = [number, place, 0, 0, 0, 0];
-    text::answer_lines(&answer, out)
-}
-
-fn refuse_wide(number: u8, place: u16, out: &mut [u8]) -> usize
-    requires { 45000 ≤ length out.old }
-    ensures { Begins (refusal_line Form.Wide number place) out.new result }
-{
-    let high = (place / 256) as u8;
-    let low = (place % 256) as u8;
-    let answer = [number, high, low, 0, 0, 0, 0, 0, 0, 0];
-    text::answer_lines_wide(&answer, out)
-}
-
-// Writes the line of a text that is refused: its place is 0.
-fn refuse_text(form: Form, number: u8, out: &mut [u8]) -> usize
-    requires { 45000 ≤ length out.old }
-    ensures { Begins (refusal_line form number 0) out.new result }
-{
+    let number = refused.fault.number();
+    let [high, low] = refused.place.to_be_bytes();
     match form {
-        Form::Narrow => refuse(number, 0, out),
-        Form::Wide => refuse_wide(number, 0, out),
+        Form::Narrow => text::answer_lines(&[number, low, 0, 0, 0, 0], form, out),
+        Form::Wide => text::answer_lines(&[number, high, low, 0, 0, 0, 0, 0, 0, 0], form, out),
     }
 }
 
-// Writes the lines of a narrow sheet's normal sheet, or the sheet's refusal.
-fn print_narrow(sheet: &[u8], out: &mut [u8]) -> usize
-    requires { 45000 ≤ length out.old }
-    ensures { Begins (printed_sheet (narrow sheet.now)) out.new result }
+// Writes the lines of a sheet's normal sheet, or the sheet's refusal, with as many bytes for the normal sheet as the longest of the form has.
+fn print_sized<const N: usize>(form: Form, sheet: &[u8], out: &mut [u8]) -> usize
+    requires { (normal_room form ≡ N) × (45000 ≤ length out.old) }
+    ensures { Begins (printed_sheet (sheet_of form sheet.now)) out.new result }
 {
-    let mut frames = [0u8; NORMAL_BYTES];
-    let written = normal::write(sheet, &mut frames);
-    if written.number != 0 {
-        let place = written.place as u8;
-        return refuse(written.number, place, out);
+    let mut frames = [0u8; N];
+    match normal::write(sheet, form, &mut frames) {
+        Ok(end) => text::frame_lines(&frames[..end], form, out),
+        Err(refused) => refuse(form, refused, out),
     }
-    let end = written.length;
-    text::frame_lines(&frames[..end], out)
-}
-
-// The same of a wide one.
-fn print_wide(sheet: &[u8], out: &mut [u8]) -> usize
-    requires { 45000 ≤ length out.old }
-    ensures { Begins (printed_sheet (wide sheet.now)) out.new result }
-{
-    let mut frames = [0u8; WIDE_NORMAL_BYTES];
-    let written = normal::write_wide(sheet, &mut frames);
-    if written.number != 0 {
-        return refuse_wide(written.number, written.place, out);
-    }
-    let end = written.length;
-    text::frame_lines_wide(&frames[..end], out)
 }
 
 fn print_sheet(form: Form, sheet: &[u8], out: &mut [u8]) -> usize
@@ -86,8 +55,8 @@ fn print_sheet(form: Form, sheet: &[u8], out: &mut [u8]) -> usize
     ensures { Begins (printed_sheet (sheet_of form sheet.now)) out.new result }
 {
     match form {
-        Form::Narrow => print_narrow(sheet, out),
-        Form::Wide => print_wide(sheet, out),
+        Form::Narrow => print_sized::<NORMAL_BYTES>(form, sheet, out),
+        Form::Wide => print_sized::<WIDE_NORMAL_BYTES>(form, sheet, out),
     }
 }
 
@@ -98,13 +67,10 @@ fn print(text: &[u8], out: &mut [u8]) -> usize
 {
     let mut sheet = [0u8; text::SHEET_BYTES];
     let mut script = [0u8; text::SCRIPT_BYTES];
-    let parsed = text::read(text, &mut sheet, &mut script);
-    let form = form::of(parsed.wide);
-    if parsed.refusal != 0 {
-        return refuse_text(form, parsed.refusal, out);
+    match text::read(text, &mut sheet, &mut script) {
+        Ok(parsed) => print_sheet(parsed.form, &sheet[..parsed.sheet], out),
+        Err(unread) => refuse(unread.form, Refused::from(unread.fault), out),
     }
-    let end = parsed.sheet;
-    print_sheet(form, &sheet[..end], out)
 }
 
 // The program over any reader and writers. Where the reader's bytes are known, what is printed for them is appended to what the output holds, or, where

@@ -1,5 +1,5 @@
 -- From what reading and widening give to what is printed: the laws that the program goes by. Assumes nothing.
-use Rattle.std.specs.Prelude.{ℕ, ◌*◌, ◌/◌, ◌≤◌, ◌<◌, Bool, List, [], ◌∷◌, ◌++◌, ◌≡◌, refl, length, take, drop}
+use Rattle.std.specs.Prelude.{Bool, Result, ℕ, ◌*◌, ◌/◌, ◌≤◌, ◌<◌, List, [], ◌∷◌, ◌++◌, ◌≡◌, refl, length, take, drop}
 use Rattle.std.proofs.Math.Nat.{min-eq_left}
 use Rattle.std.proofs.Common.{arith, sym, ◌∙◌, length-append, take_at, length-take-le}
 use Rattle.std.proofs.Math.Bool.{true, false}
@@ -7,7 +7,8 @@ use Rattle.std.proofs.Math.Path.{ap, ap₂}
 use borrow.Author.Tests.{eq-eqb, ne_eqb, le-ltb}
 use Rattle.words.proofs.Logic.{by_bool, or-false}
 use Rattle.words.specs.Bytes.{bytes_of}
-use Rattle.form.specs.Form.{form_of, frame_start}
+use Rattle.form.specs.Form.{frame_start}
+use Rattle.form.specs.declared.Form.{Form}
 use Rattle.form.specs.declared.Form.TheVariants.{Narrow, Wide}
 use Rattle.sheet.specs.Refusal as Number
 use Rattle.sheet.specs.Cause.{Refusal, first, some_holds}
@@ -15,18 +16,21 @@ use Rattle.sheet.proofs.Cause.{some_append, first_earlier, first-later, none_fir
 use Rattle.sheet.specs.Fields.{narrow, frames}
 use Rattle.sheet.specs.Rules.{size_causes, frame_causes, sheet_causes, sheet_refusal}
 use Rattle.sheet.proofs.RuleLaws.{sheet_numbered}
-use Rattle.sheet.proofs.Accepted.{none_sized}
+use Rattle.sheet.proofs.AcceptedLaws.{none_sized}
 use Rattle.sheet.proofs.Places.{sheet_small}
 use Rattle.text.specs.declared.Parsed.{Parsed}
+use Rattle.text.specs.declared.Unread.{Unread}
 use Rattle.text.specs.Hex.{hex_lines}
-use Rattle.text.specs.Reading.{sheet_room, script_room, Reading, reading, read_into, written_over, Read}
+use Rattle.text.specs.Reading.{sheet_room, script_room, Reading, reading, read_into, written_over, form_told, refusal_told, sheet_told, script_told, Read}
 use Rattle.text.proofs.ReadingLaws.{enough-room}
 use Rattle.text.specs.Answer.{line_bytes, answer_line, answer_lines, with_room, Wrote, WroteFrames, WroteLines}
 use Rattle.text.proofs.AnswerLaws.{one_answer}
 use Rattle.text.proofs.LineStores.{lines-length}
 use Rattle.widen.specs.Widen.{widened, widen_causes, refusal, Widens}
 use Rattle.widen.proofs.WidenLaws.{widened-length}
-use Rattle.to_wide.specs.Converted.{Output, refusal_output, converted_sheet, converted, Begins, Prints}
+use Rattle.to_wide.specs.Converted.{Output, refusal_output, converted_sheet, converted, Begins, Prints, Converts}
+use Rattle.to_wide.specs.declared.Lines.{Lines}
+use Rattle.sheet.specs.declared.refusal.Refused.{Refused}
 
 -- ---- a part of a buffer
 
@@ -46,18 +50,22 @@ lines_begin w n records out e h g =
 pub prints-same : {o o' : Output} {first second : List ℕ} {refused : Bool} {m n : ℕ} → o ≡ o' → Prints o first second refused m n → Prints o' first second refused m n
 prints-same e p = rw e at p
 
+-- and converted alike
+pub converts-same : {o o' : Output} (first second : List ℕ) (r : Result Lines Refused) → o ≡ o' → Converts o first second r → Converts o' first second r
+converts-same first second r e c = rw e at c
+
 -- ---- a refusal
+
+pub refusal-begins : (number place : ℕ) (out : List ℕ) {out' : List ℕ} {r : ℕ} → 3000 ≤ length out → Wrote Narrow (number ∷ place ∷ 0 ∷ 0 ∷ 0 ∷ 0 ∷ []) out r out'
+    → Begins (refusal_output number place).first out' r
+unfolding bytes_of
+refusal-begins number place out {out'} {r} room g =
+    let line : answer_lines Narrow 1 (number ∷ place ∷ 0 ∷ 0 ∷ 0 ∷ 0 ∷ []) ≡ answer_line Narrow number place 0 = one_answer Narrow number place 0 in
+    rw line at (lines_begin 6 1 (number ∷ place ∷ 0 ∷ 0 ∷ 0 ∷ 0 ∷ []) out (min-eq_left (omega arith)) (omega arith) g)
 
 pub refusal-prints : (number place : ℕ) (out : List ℕ) {out' : List ℕ} {r : ℕ} → 3000 ≤ length out → Wrote Narrow (number ∷ place ∷ 0 ∷ 0 ∷ 0 ∷ 0 ∷ []) out r out'
     → (second : List ℕ) → Prints (refusal_output number place) out' second true r 0
-unfolding bytes_of
-refusal-prints number place out {out'} {r} room g second =
-    let line : answer_lines Narrow 1 (number ∷ place ∷ 0 ∷ 0 ∷ 0 ∷ 0 ∷ []) ≡ answer_line Narrow number place 0 = one_answer Narrow number place 0 in
-    record {
-      is-refused = refl;
-      in_first = rw line at (lines_begin 6 1 (number ∷ place ∷ 0 ∷ 0 ∷ 0 ∷ 0 ∷ []) out (min-eq_left (omega arith)) (omega arith) g);
-      in_second = begins [] second refl refl;
-    }
+refusal-prints number place out room g second = record { is-refused = refl; in_first = refusal-begins number place out room g; in_second = begins [] second refl refl }
 
 -- ---- the sheet's own refusal
 
@@ -119,39 +127,39 @@ module _ {s wide wide' : List ℕ} {number place size : ℕ} (g : Widens s wide 
 
 -- ---- a text
 
-module _ {text sheet script sheet' script' : List ℕ} {r : Parsed} (g : Read text sheet script r sheet' script')
+module _ {text sheet script sheet' script' : List ℕ} {r : Result Parsed Unread} (g : Read text sheet script r sheet' script')
     (a : sheet_room ≤ length sheet) (b : script_room ≤ length script) where
   reads : read_into (length sheet) (length script) text ≡ reading text
   reads = enough-room (length sheet) (length script) text a b
 
-  form-is : (wide : Bool) → r.wide ≡ wide → (reading text).form ≡ form_of wide
-  form-is wide e = sym (g.form ∙ ap (λ (k : Reading). k.form) reads) ∙ ap form_of e
+  form-is : {F : Form} → form_told r ≡ F → (reading text).form ≡ F
+  form-is e = sym (g.form ∙ ap (λ (k : Reading). k.form) reads) ∙ e
 
-  refusal_is : r.refusal ≡ (reading text).refusal
+  refusal_is : refusal_told r ≡ (reading text).refusal
   refusal_is = g.refusal ∙ ap (λ (k : Reading). k.refusal) reads
 
-  pub sheet-begins : Begins (reading text).sheet sheet' r.sheet
+  pub sheet-begins : Begins (reading text).sheet sheet' (sheet_told r)
   sheet-begins =
       let e = ap (λ (k : Reading). k.sheet) reads in
       begins (reading text).sheet (drop (length (reading text).sheet) sheet) (g.sheet-bytes ∙ ap (λ (x : List ℕ). written_over x sheet) e) (g.sheet-length ∙ ap length e)
 
-  pub script_begins : Begins (reading text).script script' r.script
+  pub script_begins : Begins (reading text).script script' (script_told r)
   script_begins =
       let e = ap (λ (k : Reading). k.script) reads in
       begins (reading text).script (drop (length (reading text).script) script) (g.script_bytes ∙ ap (λ (x : List ℕ). written_over x script) e) (g.script_length ∙ ap length e)
 
-  pub text_wide : r.wide ≡ true → refusal_output Number.other_form 0 ≡ converted text
+  pub text_wide : form_told r ≡ Wide → refusal_output Number.other_form 0 ≡ converted text
   unfolding converted
-  text_wide e = rw (form-is true e)
+  text_wide e = rw (form-is e)
 
-  pub text_refused : r.wide ≡ false → (r.refusal ≡ 0 → ⊥) → refusal_output r.refusal 0 ≡ converted text
+  pub text_refused : form_told r ≡ Narrow → (refusal_told r ≡ 0 → ⊥) → refusal_output (refusal_told r) 0 ≡ converted text
   unfolding converted
   text_refused n h =
       ap (λ (k : ℕ). refusal_output k 0) refusal_is
-      ∙ rw (form-is false n, ne_eqb (reading text).refusal 0 (λ z. h (refusal_is ∙ z)))
+      ∙ rw (form-is n, ne_eqb (reading text).refusal 0 (λ z. h (refusal_is ∙ z)))
 
-  pub text_read : r.wide ≡ false → r.refusal ≡ 0 → converted_sheet (take r.sheet sheet') (take r.script script') ≡ converted text
+  pub text_read : form_told r ≡ Narrow → refusal_told r ≡ 0 → converted_sheet (take (sheet_told r) sheet') (take (script_told r) script') ≡ converted text
   unfolding converted
   text_read n h =
       ap₂ converted_sheet sheet-begins.bytes script_begins.bytes
-      ∙ rw (form-is false n, eq-eqb (reading text).refusal 0 (sym refusal_is ∙ h))
+      ∙ rw (form-is n, eq-eqb (reading text).refusal 0 (sym refusal_is ∙ h))

@@ -1,9 +1,11 @@
 -- What is printed for a text: its sheet's lines widened, the empty line and its script's lines, or one line for a refusal. Assumes nothing.
-use Rattle.std.specs.Prelude.{ℕ, ◌/◌, ◌≤◌, Bool, true, false, cond, List, [], ◌≡◌, eqb, length, take}
+use Rattle.std.specs.Prelude.{Result, Ok, Err, ℕ, ◌/◌, ◌≤◌, ◌<◌, Bool, true, false, cond, List, [], ◌≡◌, eqb, length, take}
 use Rattle.form.specs.Form.{frame_bytes}
 use Rattle.form.specs.declared.Form.{Form}
 use Rattle.form.specs.declared.Form.TheVariants.{Narrow, Wide}
 use Rattle.sheet.specs.Refusal as Number
+use Rattle.sheet.specs.Told.{number_of}
+use Rattle.sheet.specs.declared.refusal.Refused.{Refused}
 use Rattle.sheet.specs.Cause.{Refusal}
 use Rattle.sheet.specs.Fields.{narrow, frames}
 use Rattle.sheet.specs.Rules.{sheet_refusal}
@@ -11,6 +13,7 @@ use Rattle.text.specs.Hex.{hex_lines}
 use Rattle.text.specs.Reading.{script_frame_bytes, Reading, reading}
 use Rattle.text.specs.Answer.{answer_line}
 use Rattle.widen.specs.Widen.{widened}
+use Rattle.to_wide.specs.declared.Lines.{Lines}
 
 -- two parts, with the empty line between them unless they are a refusal's
 pub record Output : Type 0 where
@@ -57,3 +60,8 @@ pub record Prints (o : Output) (first second : List ℕ) (refused : Bool) (m n :
   pub is-refused : refused ≡ o.refused
   pub in_first : Begins o.first first m
   pub in_second : Begins o.second second n
+
+-- What a conversion gives of the output o: the two buffers begin with its parts, or it is a refusal's, told at a frame of a narrow sheet.
+abbrev pub Converts : Output → List ℕ → List ℕ → Result Lines Refused → Type 0
+Converts o first second (Ok l) = Prints o first second false l.sheet l.script
+Converts o first second (Err r) = (o ≡ refusal_output (number_of r.fault) r.place) × (r.place < 200)

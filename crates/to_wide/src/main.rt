@@ -1,11 +1,13 @@
 // The program: a text with a narrow sheet from standard input, and the same text with its sheet widened to standard output.
 #![tactic(auto)]
 
-ghost use Rattle.std.specs.Prelude.{List, ℕ, ◌≡◌, ◌<◌, ◌≤◌, ◌∷◌, ◌++◌, cond, length, OnOk, IfSome};
+ghost use Rattle.std.specs.Prelude.{◌≡◌, ◌<◌, ◌≤◌, ◌∷◌, ◌++◌, cond, length, OnOk, IfSome};
 ghost use Rattle.std.specs.Io.KnownBytes.{Appends};
-ghost use Rattle.to_wide.specs.Converted.{refusal_output, converted_sheet, converted, Prints};
+ghost use Rattle.sheet.specs.Told.{number_of};
+ghost use Rattle.to_wide.specs.Converted.{refusal_output, converted_sheet, converted, Begins, Converts};
 
-use sheet::refusal;
+use form::Form;
+use sheet::refusal::{Fault, Refused};
 use std::io;
 use std::io::{Read, Write};
 
@@ -20,66 +22,62 @@ const SHEET_LINES_BYTES: usize = 3000;
 // A thousand lines of nine bytes.
 const SCRIPT_LINES_BYTES: usize = 9000;
 
-// What is printed of two buffers: so many bytes of each, with the empty line between them unless they are a refusal's.
+// How many bytes the lines of a wide sheet take, and those of a script.
 #[derive(Clone, Copy)]
-struct Printed {
-    refused: bool,
-    first: usize,
-    second: usize,
+struct Lines {
+    sheet: usize,
+    script: usize,
 }
 
-// Writes a refusal's line.
-fn refuse(number: u8, place: u8, first: &mut [u8]) -> Printed
-    requires { 3000 ≤ length first.old }
-    ensures { (second : List ℕ) → Prints (refusal_output number place) first.new second result.refused result.first result.second }
+// Writes a refusal's line. A place in a narrow sheet fits a byte.
+fn refuse(refused: Refused, first: &mut [u8]) -> usize
+    requires { (refused.place < 200) × (3000 ≤ length first.old) }
+    ensures { Begins (refusal_output (number_of refused.fault) refused.place).first first.new result }
 {
-    let answer = [number, place, 0, 0, 0, 0];
-    let written = text::answer_lines(&answer, first);
-    Printed {
-        refused: true,
-        first: written,
-        second: 0,
-    }
+    let answer = [refused.fault.number(), refused.place as u8, 0, 0, 0, 0];
+    text::answer_lines(&answer, Form::Narrow, first)
 }
 
 // Writes the lines of a narrow sheet widened, and those of a script.
-fn convert_sheet(sheet: &[u8], script: &[u8], first: &mut [u8], second: &mut [u8]) -> Printed
+fn convert_sheet(
+    sheet: &[u8],
+    script: &[u8],
+    first: &mut [u8],
+    second: &mut [u8],
+) -> Result<Lines, Refused>
     requires { (3000 ≤ length first.old) × (9000 ≤ length second.old) × (length script.now ≤ 4000) }
-    ensures { Prints (converted_sheet sheet.now script.now) first.new second.new result.refused result.first result.second }
+    ensures { Converts (converted_sheet sheet.now script.now) first.new second.new result }
 {
     let mut wide = [0u8; WIDE_SHEET_BYTES];
-    let widened = widen::widen(sheet, &mut wide);
-    if widened.number != 0 {
-        let place = widened.place as u8;
-        return refuse(widened.number, place, first);
-    }
-    let end = widened.length;
-    let sheet_bytes = text::frame_lines_wide(&wide[..end], first);
-    let script_bytes = text::frame_lines(script, second);
-    Printed {
-        refused: false,
-        first: sheet_bytes,
-        second: script_bytes,
-    }
+    let end = widen::widen(sheet, &mut wide)?;
+    Ok(Lines {
+        sheet: text::frame_lines(&wide[..end], Form::Wide, first),
+        script: text::frame_lines(script, Form::Narrow, second),
+    })
 }
 
-// Writes what is printed for a text from the start of the two buffers.
-fn convert(text: &[u8], first: &mut [u8], second: &mut [u8]) -> Printed
+// Writes what is printed for a text from the start of the two buffers, unless it is refused: a wide text, read or not, is of the other form.
+fn convert(text: &[u8], first: &mut [u8], second: &mut [u8]) -> Result<Lines, Refused>
     requires { (3000 ≤ length first.old) × (9000 ≤ length second.old) }
-    ensures { Prints (converted text.now) first.new second.new result.refused result.first result.second }
+    ensures { Converts (converted text.now) first.new second.new result }
 {
     let mut sheet = [0u8; text::SHEET_BYTES];
     let mut script = [0u8; text::SCRIPT_BYTES];
-    let parsed = text::read(text, &mut sheet, &mut script);
-    if parsed.wide {
-        return refuse(refusal::OTHER_FORM, 0, first);
+    match text::read(text, &mut sheet, &mut script) {
+        Ok(parsed) => match parsed.form {
+            Form::Narrow => convert_sheet(
+                &sheet[..parsed.sheet],
+                &script[..parsed.script],
+                first,
+                second,
+            ),
+            Form::Wide => Err(Refused::from(Fault::OtherForm)),
+        },
+        Err(unread) => match unread.form {
+            Form::Narrow => Err(Refused::from(unread.fault)),
+            Form::Wide => Err(Refused::from(Fault::OtherForm)),
+        },
     }
-    if parsed.refusal != 0 {
-        return refuse(parsed.refusal, 0, first);
-    }
-    let sheet_end = parsed.sheet;
-    let script_end = parsed.script;
-    convert_sheet(&sheet[..sheet_end], &script[..script_end], first, second)
 }
 
 // The program over any reader and writers. Where the reader's bytes are known, what they are converted to is appended to what the output holds, or, where
@@ -101,15 +99,17 @@ fn run<R: Read, W: Write, C: Write>(
     }
     let mut first = [0u8; SHEET_LINES_BYTES];
     let mut second = [0u8; SCRIPT_LINES_BYTES];
-    let printed = convert(&text[..read], &mut first, &mut second);
-    let sheet_end = printed.first;
-    output.write_all(&first[..sheet_end])?;
-    if printed.refused {
-        return Ok(());
+    match convert(&text[..read], &mut first, &mut second) {
+        Ok(lines) => {
+            output.write_all(&first[..lines.sheet])?;
+            output.write_all(b"\n")?;
+            output.write_all(&second[..lines.script])
+        }
+        Err(refused) => {
+            let end = refuse(refused, &mut first);
+            output.write_all(&first[..end])
+        }
     }
-    let script_end = printed.second;
-    output.write_all(b"\n")?;
-    output.write_all(&second[..script_end])
 }
 
 fn main(rt: HostRuntime) -> io::Result<()> {

@@ -8,7 +8,7 @@ use mathlib.Core.List.{List, []}
 use borrow.Author.Tests.{lt-ltb}
 use Rattle.words.proofs.Logic.{by_bool}
 use Rattle.words.specs.Word.{bit}
-use Rattle.words.proofs.Word.{ext}
+use Rattle.words.proofs.Bits.{ext}
 use Rattle.formula.specs.Formula.{Formula, free}
 use Rattle.formula.specs.Ask.{Bounded}
 use Rattle.formula.proofs.Over.{same-value}

@@ -29,7 +29,9 @@ unfolding widened_to
 widened-length s zero = refl
 widened-length s (suc k) = rw (length-append, widened-length s k) (omega arith)
 
--- one frame more, as the code stores it
+-- ---- as the code stores them
+
+-- one frame more
 pub widened_none : (s l : List ℕ) → sets l 0 (widened_to s 0) ≡ l
 unfolding widened_to
 widened_none s l = refl

@@ -1,5 +1,5 @@
 pub mod Logic
-pub mod Word
+pub mod Bits
 pub mod Mask
 pub mod Bytes
 pub mod Stores

@@ -9,7 +9,7 @@ use Rattle.std.specs.Int.Bits.{bit_and, bit_or, and_self, and_zero_l, and_zero_r
 use Rattle.words.specs.Logic.{tests}
 use Rattle.words.proofs.Logic.{by_bool, clash, and_both, or_cases, or_left, or_right}
 use Rattle.words.specs.Word.{bit, xorb}
-use Rattle.words.proofs.Word.{bit-and, bit-or, bit-xor, bit_high, bit-none, bit-pow, bit_not, bit-range, ext, ext_below}
+use Rattle.words.proofs.Bits.{bit-and, bit-or, bit-xor, bit_high, bit-none, bit-pow, bit_not, bit-range, ext, ext_below}
 use Rattle.words.specs.Mask.{Agree, Apart, Sub, Top, agree, inside, mask_of, placed, put, range_mask, without}
 
 xor_and : (p q : Bool) → xorb p (p && q) ≡ p && not q

@@ -1,7 +1,9 @@
 -- Runs of stores: one after the other, what is read at them and beside them, and as what is left of a buffer behind them. Assumes nothing.
-use Rattle.std.specs.Prelude.{ℕ, zero, suc, ◌+◌, ◌≤◌, ◌<◌, List, [], ◌∷◌, ◌++◌, ◌≡◌, refl, length, get_or, set, drop}
-use Rattle.std.proofs.Common.{add-zero, zero-add, add-suc, suc-add, add-one, arith, sym, ap, ◌∙◌, length-set, drop-cons, get_or-set_other, get_or-set_same}
+use Rattle.std.specs.Prelude.{ℕ, zero, suc, ◌+◌, ◌≤◌, ◌<◌, List, [], ◌∷◌, ◌++◌, ◌≡◌, refl, length, get_or, set, take, drop}
+use Rattle.std.proofs.Common.{append_assoc, add-zero, zero-add, add-suc, suc-add, add-one, arith, sym, ap, ◌∙◌, length-set, drop-cons, get_or-set_other, get_or-set_same}
+use Rattle.std.proofs.lemmas.List.{drop-drop}
 use Rattle.std.proofs.lemmas.List.Edits.{sets, sets-eq}
+use borrow.Rule.Slice.PartMut.{put_mid}
 
 pub sets_append : (vs ws l : List ℕ) (i : ℕ) → sets l i (vs ++ ws) ≡ sets (sets l i vs) (i + length vs) ws
 sets_append [] ws l i = rw add-zero
@@ -16,6 +18,10 @@ sets-next vs l i to h = rw (add-one to, add-one i, drop-cons vs i 0 h)
 -- a buffer behind what is stored from its start
 pub sets-start : (vs l : List ℕ) → length vs ≤ length l → sets l 0 vs ≡ vs ++ drop (length vs) l
 sets-start vs l h = sets-eq vs l 0 (rw zero-add h) ∙ rw zero-add
+
+-- a part of a buffer written over by a list of its length
+pub stored : (at : ℕ) (out vs : List ℕ) {new : List ℕ} {k : ℕ} → new ≡ vs → k ≡ length vs → at + length vs ≤ length out → put_mid at k out new ≡ sets out at vs
+stored at out vs e n h = rw (e, n, drop-drop) (sym (sets-eq vs out at h ∙ append_assoc (take at out) vs (drop (at + length vs) out)))
 
 -- beside them
 pub sets-before : (vs l : List ℕ) (at k : ℕ) → k < at → get_or (sets l at vs) k 0 ≡ get_or l k 0

@@ -1,5 +1,5 @@
 -- `cube::unfixed_agrees` meets its contract: the constant's two words are 0 (`agree-none`). Assumes nothing.
-use mathlib.Core.Path.{◌∙◌}
+use Rattle.std.proofs.Common.{◌∙◌}
 use Rattle.words.proofs.Mask.{agree-none}
 use Rattle.cube.proofs.unfixed_agrees.Goals as goal
 

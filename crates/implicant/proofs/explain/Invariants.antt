@@ -1,5 +1,4 @@
 -- `implicant::explain` meets its contract: the cells before k are right. Assumes nothing.
-use Prim.Native.Nat.{◌+◌, ◌-◌}
 use mathlib.Core.Path.{◌≡◌}
 use lib.ListN.{length}
 use Rattle.implicant.specs.Implicant.{Shows}
@@ -7,6 +6,3 @@ use Rattle.implicant.proofs.explain.Given as goal
 
 abbrev pub invariant-loop-k : goal.invariant-loop-k
 invariant-loop-k l = Shows l.net l.cube.mask l.cube.values l.cells l.k × (length l.cells ≡ length l.initial.cells)
-
-abbrev pub decreases-loop-k : goal.decreases-loop-k
-decreases-loop-k l = l.a + 1 - l.k

@@ -1,15 +1,16 @@
--- src/lib.rt:88:9
--- src/lib.rt:92:42
--- src/lib.rt:92:55
--- src/lib.rt:92:69
--- src/lib.rt:92:5
--- src/lib.rt:85:1
--- src/lib.rt:85:1
-use Prim.Native.Nat.{ℕ}
-use lib.ListN.{length-replicate, get_or-replicate}
-use native.Mathlib.Omega.{arith}
+-- `normal::write` meets its contract.
+use Rattle.std.proofs.Common.{arith}
+use Rattle.std.proofs.lemmas.Result.{err_from_is_err_and}
+use Rattle.normal.proofs.WriteLaws.{write_refused, checked_keeps}
 use Rattle.normal.proofs.write.Goals as goal
 
-pub write_checked-requires : goal.write_checked-requires
-write_checked-requires c =
-    (c.check-checked.ensures, omega (arith, length-replicate {A = ℕ} 200 0), omega (arith, length-replicate {A = ℕ} 200 65535), omega (arith, length-replicate {A = ℕ} 200 0), λ k h. get_or-replicate {A = ℕ} 200 k 65535 0 h)
+pub returns-in_err-check : goal.returns-in_err-check
+returns-in_err-check c =
+    let p = err_from_is_err_and c.from_residual.result c.from_residual.ensures.1 in
+    rw (p.1, p.2) (write_refused _ c.args.out.now c.in_err-check.ensures)
+
+pub write_sized-requires : goal.write_sized-requires
+write_sized-requires c = (checked_keeps c.in_ok-check.ensures, rw c.in-Narrow.is (omega arith))
+
+pub write_sized-requires-in-Wide : goal.write_sized-requires-in-Wide
+write_sized-requires-in-Wide c = (checked_keeps c.in_ok-check.ensures, rw c.in-Wide.is (omega arith))

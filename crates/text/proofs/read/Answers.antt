@@ -1,53 +1,34 @@
--- `text::read` meets its contract: it refuses with both buffers as they were, or stores the frames of both parts. Assumes nothing.
-use native.Mathlib.Omega.{arith}
-use mathlib.Core.Bool.{false}
-use mathlib.Core.Path.{ap, ◌∙◌}
-use Rattle.form.specs.Form.{form_of, frame_bytes}
-use Rattle.text.proofs.ReadingLaws.{few_bytes, sheet-room, small_sheet, small_script, enough-room, form_reads, scan_refused, scan_accepted, read_refused, read_accepted}
+-- It refuses with both buffers as they were, or stores the frames of both parts. Assumes nothing.
+use Rattle.std.proofs.Common.{◌≡◌, ◌∙◌, arith, rules}
+use Rattle.form.specs.declared.Form.TheVariants.{Narrow}
+use Rattle.sheet.specs.declared.refusal.Fault.TheVariants.{NoRoom}
+use Rattle.sheet.specs.Told.{number_of}
+use Rattle.std.proofs.lemmas.Result.{err_from_is_err_and}
+use Rattle.text.specs.Reading.{reading_in, refused, Parts}
+use Rattle.text.proofs.ReadingLaws.{small_sheet, small_script, enough-room, form_reads, read_refused, read_accepted}
 use Rattle.text.proofs.read.Goals as goal
+use Rattle.text.proofs.read.Goals.{then-sheet-lt-SHEET_BYTES-via-then-sheet-lt-SHEET_BYTES, then-sheet-lt-SHEET_BYTES-via-else-sheet-lt-SHEET_BYTES+then-script-lt-SCRIPT_BYTES}
 
 pub returns-then-sheet-lt-SHEET_BYTES : goal.returns-then-sheet-lt-SHEET_BYTES
 returns-then-sheet-lt-SHEET_BYTES c =
-    read_refused c.args.text.now c.args.sheet.now c.args.script.now false _ c.refused.result
-    (small_sheet _ _ c.args.text.now (omega (arith, c.if-sheet-lt-SHEET_BYTES.true))) c.refused.ensures
+    read_refused c.args.text.now c.args.sheet.now c.args.script.now Narrow NoRoom
+    (elim c.then-sheet-lt-SHEET_BYTES.branch [
+      | then-sheet-lt-SHEET_BYTES-via-then-sheet-lt-SHEET_BYTES w ↦ small_sheet _ _ _ (omega arith)
+      | then-sheet-lt-SHEET_BYTES-via-else-sheet-lt-SHEET_BYTES+then-script-lt-SCRIPT_BYTES w ↦ small_script _ _ _ (omega arith)
+    ])
 
-pub returns-then-script-lt-SCRIPT_BYTES : goal.returns-then-script-lt-SCRIPT_BYTES
-returns-then-script-lt-SCRIPT_BYTES c =
-    read_refused c.args.text.now c.args.sheet.now c.args.script.now false _ c.refused-then-script-lt-SCRIPT_BYTES.result
-    (small_script _ _ c.args.text.now c.if-script-lt-SCRIPT_BYTES.true) c.refused-then-script-lt-SCRIPT_BYTES.ensures
+pub returns-in_err-layout : goal.returns-in_err-layout
+returns-in_err-layout c =
+    let p = err_from_is_err_and c.from_residual.result c.from_residual.ensures.1 in
+    let f : c.in_err-layout.field-0.0.form ≡ c.form_of-form.result = search rules in
+    let t : reading_in c.form_of-form.result c.args.text.now ≡ refused c.form_of-form.result (number_of c.in_err-layout.field-0.0.fault) = search rules in
+    rw (p.1, p.2)
+    (read_refused c.args.text.now c.args.sheet.now c.args.script.now _ c.in_err-layout.field-0.0.fault
+    (enough-room _ _ c.args.text.now c.if-sheet-lt-SHEET_BYTES.false c.if-script-lt-SCRIPT_BYTES.false ∙ form_reads _ c.args.text.now c.form_of-form.ensures ∙ rw f t))
 
-pub put_frames-requires : goal.put_frames-requires
-put_frames-requires c =
-    let p = scan_accepted _ _ _ _ _ _ c.in-Accepted.is c.scan.ensures in
-    let h = sheet-room c.of-form.result _ p.sheet-most in
-    (omega arith, rw c.frame_bytes-size.ensures (few_bytes c.of-form.result), rw c.frame_bytes-size.ensures p.sheet-lines, rw c.frame_bytes-size.ensures (omega (arith, h, c.if-sheet-lt-SHEET_BYTES.false)))
-
-pub put_frames-requires-in-Accepted : goal.put_frames-requires-in-Accepted
-put_frames-requires-in-Accepted c =
-    let p = scan_accepted _ _ _ _ _ _ c.in-Accepted.is c.scan.ensures in
-    (p.within, omega arith, p.script_lines, omega (arith, p.script_most, c.if-script-lt-SCRIPT_BYTES.false))
-
-pub overflow_mul-result : goal.overflow_mul-result
-overflow_mul-result c =
-    let p = scan_accepted _ _ _ _ _ _ c.in-Accepted.is c.scan.ensures in
-    let h = sheet-room c.of-form.result _ p.sheet-most in
-    rw c.frame_bytes-size.ensures (omega (arith, h))
-
-pub overflow_mul-result-in-Accepted : goal.overflow_mul-result-in-Accepted
-overflow_mul-result-in-Accepted c =
-    omega (arith, (scan_accepted _ _ _ _ _ _ c.in-Accepted.is c.scan.ensures).script_most)
-
-pub returns-in-Refused : goal.returns-in-Refused
-returns-in-Refused c =
-    read_refused c.args.text.now c.args.sheet.now c.args.script.now c.wide-wide.result _ c.refused-in-Refused.result
-    (enough-room _ _ c.args.text.now c.if-sheet-lt-SHEET_BYTES.false c.if-script-lt-SCRIPT_BYTES.false ∙ form_reads c.wide-wide.result c.args.text.now c.wide-wide.ensures
-    ∙ scan_refused (form_of c.wide-wide.result) c.args.text.now _ _ c.in-Refused.is (rw c.of-form.ensures at c.scan.ensures))
-    c.refused-in-Refused.ensures
-
-pub returns-in-Accepted : goal.returns-in-Accepted
-returns-in-Accepted c =
-    let w = c.frame_bytes-size.ensures ∙ ap frame_bytes c.of-form.ensures in
-    read_accepted c.args.text.now c.args.sheet.now c.args.script.now c.wide-wide.result _ _ _
-    (scan_accepted (form_of c.wide-wide.result) c.args.text.now _ _ _ _ c.in-Accepted.is (rw c.of-form.ensures at c.scan.ensures))
-    (enough-room _ _ c.args.text.now c.if-sheet-lt-SHEET_BYTES.false c.if-script-lt-SCRIPT_BYTES.false ∙ form_reads c.wide-wide.result c.args.text.now c.wide-wide.ensures) c.if-sheet-lt-SHEET_BYTES.false c.if-script-lt-SCRIPT_BYTES.false
-    _ w _ _ c.put_frames.ensures c.put_frames-in-Accepted.ensures
+pub returns : goal.returns
+returns c =
+    let p : Parts c.form_of-form.result c.args.text.now c.in_ok-layout.layout.sheet c.in_ok-layout.layout.behind.now c.in_ok-layout.layout.script = search rules in
+    read_accepted c.form_of-form.result c.args.text.now _ c.args.sheet.now c.args.script.now _ _ p
+    (enough-room _ _ c.args.text.now c.if-sheet-lt-SHEET_BYTES.false c.if-script-lt-SCRIPT_BYTES.false ∙ form_reads _ c.args.text.now c.form_of-form.ensures)
+    c.if-sheet-lt-SHEET_BYTES.false c.if-script-lt-SCRIPT_BYTES.false _ c.frame_bytes-size.ensures _ _ c.put_frames.ensures c.put_frames-2.ensures

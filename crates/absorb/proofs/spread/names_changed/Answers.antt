@@ -1,48 +1,38 @@
--- `absorb::spread::names_changed` meets its contract. Assumes nothing.
-use native.Mathlib.Omega.{arith}
-use mathlib.Core.Path.{refl, sym, ◌∙◌, ap}
-use mathlib.Core.Bool.{true, not}
-use Rattle.words.proofs.Logic.{clash}
-use Rattle.net.specs.Layout.{names-below, joins-right}
-use Rattle.absorb.specs.MarksLaws.{names_leaf, names_flips, names-binds, names-joins}
+-- `absorb::spread::names_changed` meets its contract.
+use Rattle.std.proofs.Common.{arith, sym, ◌∙◌, ap}
+use Rattle.std.specs.Prelude.{not}
+use Rattle.net.specs.Op.{code_gate, code_names}
+use Rattle.net.specs.Layout.{names-below, joins-left, joins-right}
+use Rattle.absorb.specs.MarksLaws.{names_none, names_one, names_two}
 use Rattle.absorb.specs.Spread.{still}
 use Rattle.absorb.proofs.spread.names_changed.Goals as goal
 
-pub node_at-node-requires : goal.node_at-node-requires
-node_at-node-requires c =
-    omega (arith, c.requires.0.room, c.requires.1)
-
-pub returns-then-node-lt3 : goal.returns-then-node-lt3
-returns-then-node-lt3 c =
-    λ e. rw c.node_at-node.ensures.is.node (names_leaf c.node_at-node.result.op c.node_at-node.result.left c.node_at-node.result.right c.node_at-node.result.mask (still c.args.net.now) c.if-node-lt3.true)
-
 pub changed-requires : goal.changed-requires
 changed-requires c =
-    omega (arith, c.requires.0.room, c.requires.1, names-below c.requires.0 c.node_at-node.ensures.is (omega arith))
+    omega (arith, c.requires.0.room, names-below c.requires.0 c.node_at-node.ensures.is (code_names c.in-Not.is))
 
-pub returns-then-changed : goal.returns-then-changed
-returns-then-changed c =
-    λ e. clash true refl e
+pub changed-requires-in-And : goal.changed-requires-in-And
+changed-requires-in-And c =
+    let gate = code_gate c.in-And.is in
+    let left = joins-left c.requires.0 c.node_at-node.ensures.is gate.0 gate.1 in
+    omega (arith, c.requires.0.room)
 
-pub returns-then-node-eq3 : goal.returns-then-node-eq3
+pub changed-requires-else-changed : goal.changed-requires-else-changed
+changed-requires-else-changed c =
+    let gate = code_gate c.in-And.is in
+    let left = joins-left c.requires.0 c.node_at-node.ensures.is gate.0 gate.1 in
+    let right = joins-right c.requires.0 c.node_at-node.ensures.is gate.0 gate.1 in
+    omega (arith, c.requires.0.room)
+
+pub returns-in-False : goal.returns-in-False
+returns-in-False c = λ e. rw c.node_at-node.ensures.is.node (names_none _ _ _ _ c.in-False.is)
+
+pub returns-in-Not : goal.returns-in-Not
 unfolding still
-returns-then-node-eq3 c =
-    λ e. rw c.node_at-node.ensures.is.node (names_flips c.node_at-node.result.op c.node_at-node.result.left c.node_at-node.result.right c.node_at-node.result.mask (still c.args.net.now) c.if-node-eq3.true (ap not (sym c.changed.ensures) ∙ ap not c.if-changed.false))
+returns-in-Not c =
+    λ e. rw c.node_at-node.ensures.is.node (names_one _ _ _ (still c.args.net.now) c.in-Not.is (ap not (sym c.changed.ensures ∙ e)))
 
-pub returns-then-node-gt5 : goal.returns-then-node-gt5
+pub returns-else-changed : goal.returns-else-changed
 unfolding still
-returns-then-node-gt5 c =
-    λ e. rw c.node_at-node.ensures.is.node (names-binds c.node_at-node.result.op c.node_at-node.result.left c.node_at-node.result.right c.node_at-node.result.mask (still c.args.net.now) (omega arith) (ap not (sym c.changed.ensures) ∙ ap not c.if-changed.false))
-
-pub changed-requires-2 : goal.changed-requires-2
-changed-requires-2 c =
-    omega (arith, c.requires.0.room, c.requires.1, joins-right c.requires.0 c.node_at-node.ensures.is (omega arith) (omega arith))
-
-pub returns-then-changed-2 : goal.returns-then-changed-2
-returns-then-changed-2 c =
-    λ e. clash true refl e
-
-pub returns : goal.returns
-unfolding still
-returns c =
-    λ e. rw c.node_at-node.ensures.is.node (names-joins c.node_at-node.result.op c.node_at-node.result.left c.node_at-node.result.right c.node_at-node.result.mask (still c.args.net.now) (omega arith) (omega arith) (ap not (sym c.changed.ensures) ∙ ap not c.if-changed.false) (ap not (sym c.changed-2.ensures) ∙ ap not c.if-changed-2.false))
+returns-else-changed c =
+    λ e. rw c.node_at-node.ensures.is.node (names_two _ _ _ (still c.args.net.now) c.in-And.is (ap not (sym c.changed-in-And.ensures ∙ c.if-changed.false)) (ap not (sym c.changed-else-changed.ensures ∙ e)))

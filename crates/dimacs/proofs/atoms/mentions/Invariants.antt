@@ -8,7 +8,7 @@ use Rattle.dimacs.proofs.atoms.mentions.Given as goal
 
 abbrev pub invariant-loop-at : goal.invariant-loop-at
 invariant-loop-at l =
-    (l.at ≤ length l.text) × (mentions l.kind l.v l.now_in (tokens (drop l.from l.text)) ≡ mentions l.kind l.v l.row (tokens (drop l.at l.text)))
+    (l.at ≤ length l.text) × (mentions l.kind l.v l.fn.now_in (tokens (drop l.from l.text)) ≡ mentions l.kind l.v l.row (tokens (drop l.at l.text)))
 
 abbrev pub decreases-loop-at : goal.decreases-loop-at
 decreases-loop-at l = length l.text - l.at

@@ -1,54 +1,29 @@
 -- `dimacs::atoms::proper_atoms` meets its contract. The invariant: the answer is that of the fields which are still to be read. Assumes nothing.
-use native.Mathlib.Omega.{arith}
 use mathlib.Core.Bool.{not}
-use mathlib.Core.Path.{refl, sym, ap, ◌∙◌}
+use mathlib.Core.Path.{sym, ap, ◌∙◌}
 use Rattle.dimacs.proofs.TokenLaws.{tokens-taken, tokens_none}
-use Rattle.dimacs.proofs.RowSteps.{proper-none, proper-other_row, proper-zero, proper-next, proper-fails}
+use Rattle.dimacs.proofs.RowSteps.{same-row, other-row, proper-none, proper-other_row, proper-zero, proper-next, proper-fails}
 use Rattle.dimacs.proofs.atoms.proper_atoms.Goals as goal
-
-pub loop-at-init : goal.loop-at-init
-loop-at-init c =
-    (c.requires, refl)
-
-pub next-taken-requires : goal.next-taken-requires
-next-taken-requires c =
-    c.loop-at-test.true
-
-pub proper_atom-requires : goal.proper_atom-requires
-proper_atom-requires c =
-    c.next-taken.ensures.within
 
 pub returns-then-not-proper_atom : goal.returns-then-not-proper_atom
 returns-then-not-proper_atom c =
     let s = tokens-taken c.next-taken.ensures in
-    sym (c.loop-at.invariant.1 ∙ proper-fails s c.row_after-row.ensures c.if-before-eq-BLOCK.true c.number_of-v.ensures c.if-v-ne0.true c.proper_atom.ensures (ap not c.if-not-proper_atom.true))
-
-pub loop-at-smaller-else-not-proper_atom : goal.loop-at-smaller-else-not-proper_atom
-loop-at-smaller-else-not-proper_atom c =
-    omega (arith, c.loop-at-test.true, c.next-taken.ensures.onward, c.next-taken.ensures.within)
+    sym (c.loop-at.invariant.1 ∙ proper-fails s c.row_after-row.ensures (same-row _ _ c.if-eq.ensures) c.number_of-v.ensures c.if-v-ne0.true c.proper_atom.ensures (ap not c.if-not-proper_atom.true))
 
 pub loop-at-preserved-else-not-proper_atom : goal.loop-at-preserved-else-not-proper_atom
 loop-at-preserved-else-not-proper_atom c =
     let s = tokens-taken c.next-taken.ensures in
-    (c.next-taken.ensures.within, c.loop-at.invariant.1 ∙ proper-next s c.row_after-row.ensures c.if-before-eq-BLOCK.true c.number_of-v.ensures c.if-v-ne0.true c.proper_atom.ensures (ap not c.if-not-proper_atom.false))
-
-pub loop-at-smaller-else-v-ne0 : goal.loop-at-smaller-else-v-ne0
-loop-at-smaller-else-v-ne0 c =
-    omega (arith, c.loop-at-test.true, c.next-taken.ensures.onward, c.next-taken.ensures.within)
+    (c.next-taken.ensures.within, c.loop-at.invariant.1 ∙ proper-next s c.row_after-row.ensures (same-row _ _ c.if-eq.ensures) c.number_of-v.ensures c.if-v-ne0.true c.proper_atom.ensures (ap not c.if-not-proper_atom.false))
 
 pub loop-at-preserved-else-v-ne0 : goal.loop-at-preserved-else-v-ne0
 loop-at-preserved-else-v-ne0 c =
     let s = tokens-taken c.next-taken.ensures in
-    (c.next-taken.ensures.within, c.loop-at.invariant.1 ∙ proper-zero s c.row_after-row.ensures c.if-before-eq-BLOCK.true c.number_of-v.ensures c.if-v-ne0.false)
-
-pub loop-at-smaller : goal.loop-at-smaller
-loop-at-smaller c =
-    omega (arith, c.loop-at-test.true, c.next-taken.ensures.onward, c.next-taken.ensures.within)
+    (c.next-taken.ensures.within, c.loop-at.invariant.1 ∙ proper-zero s c.row_after-row.ensures (same-row _ _ c.if-eq.ensures) c.number_of-v.ensures c.if-v-ne0.false)
 
 pub loop-at-preserved : goal.loop-at-preserved
 loop-at-preserved c =
     let s = tokens-taken c.next-taken.ensures in
-    (c.next-taken.ensures.within, c.loop-at.invariant.1 ∙ proper-other_row s c.row_after-row.ensures c.if-before-eq-BLOCK.false)
+    (c.next-taken.ensures.within, c.loop-at.invariant.1 ∙ proper-other_row s c.row_after-row.ensures (other-row _ _ c.if-eq.ensures))
 
 pub returns : goal.returns
 returns c =

@@ -1,13 +1,9 @@
 -- `comments::behind_comments` meets its contract. The invariant: from here on the same is left behind the comment lines. Assumes nothing.
-use Prim.Native.Nat.{◌-◌, ◌≤◌}
 use mathlib.Core.Bool.{false}
 use mathlib.Core.Path.{◌≡◌}
-use lib.ListN.{length, drop}
+use lib.ListN.{drop}
 use Rattle.dimacs.specs.Token.{behind_comments}
 use Rattle.dimacs.proofs.comments.behind_comments.Given as goal
 
 abbrev pub invariant-loop-at : goal.invariant-loop-at
-invariant-loop-at l = (behind_comments false l.text ≡ behind_comments l.inside (drop l.at l.text)) × (l.at ≤ length l.text)
-
-abbrev pub decreases-loop-at : goal.decreases-loop-at
-decreases-loop-at l = length l.text - l.at
+invariant-loop-at l = behind_comments false l.text ≡ behind_comments l.inside (drop l.at l.text)

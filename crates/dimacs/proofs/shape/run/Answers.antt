@@ -1,16 +1,8 @@
 -- `dimacs::shape::run` meets its contract. The invariant: taking the fields that are left gives what taking all of them gives. Assumes nothing.
 use native.Mathlib.Omega.{arith}
-use mathlib.Core.Path.{refl, sym, ◌∙◌}
+use mathlib.Core.Path.{sym, ◌∙◌}
 use Rattle.dimacs.proofs.ShapeSteps.{run-taken, run_none}
 use Rattle.dimacs.proofs.shape.run.Goals as goal
-
-pub loop-at-init : goal.loop-at-init
-loop-at-init c =
-    (c.requires, refl)
-
-pub loop-at-smaller : goal.loop-at-smaller
-loop-at-smaller c =
-    omega (arith, c.next-taken.ensures.onward, c.next-taken.ensures.within)
 
 pub loop-at-preserved : goal.loop-at-preserved
 loop-at-preserved c =

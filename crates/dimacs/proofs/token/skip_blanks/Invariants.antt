@@ -1,12 +1,8 @@
 -- `token::skip_blanks` meets its contract. The invariant: from here on the same is left behind the blanks. Assumes nothing.
-use Prim.Native.Nat.{◌-◌, ◌≤◌}
 use mathlib.Core.Path.{◌≡◌}
-use lib.ListN.{length, drop}
+use lib.ListN.{drop}
 use Rattle.dimacs.specs.Token.{after_blanks}
 use Rattle.dimacs.proofs.token.skip_blanks.Given as goal
 
 abbrev pub invariant-loop-at : goal.invariant-loop-at
-invariant-loop-at l = (after_blanks (drop l.from l.text) ≡ after_blanks (drop l.at l.text)) × (l.from ≤ l.at) × (l.at ≤ length l.text)
-
-abbrev pub decreases-loop-at : goal.decreases-loop-at
-decreases-loop-at l = length l.text - l.at
+invariant-loop-at l = after_blanks (drop l.from l.text) ≡ after_blanks (drop l.at l.text)

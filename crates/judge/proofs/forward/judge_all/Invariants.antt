@@ -1,5 +1,4 @@
 -- `judge::forward::judge_all` meets its contract: what is known stays right as each node is judged in turn. Assumes nothing.
-use Prim.Native.Nat.{◌+◌, ◌-◌}
 use mathlib.Core.Path.{◌≡◌}
 use lib.ListN.{length}
 use Rattle.judge.specs.Judge.{Judging}
@@ -8,6 +7,3 @@ use Rattle.judge.proofs.forward.judge_all.Given as goal
 abbrev pub invariant-loop-k : goal.invariant-loop-k
 invariant-loop-k l =
     Judging l.net l.cube.mask l.cube.values l.initial.cells l.head l.cells l.at × (length l.cells ≡ length l.initial.cells)
-
-abbrev pub decreases-loop-k : goal.decreases-loop-k
-decreases-loop-k l = l.a + 1 - l.k

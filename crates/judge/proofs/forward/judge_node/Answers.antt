@@ -1,40 +1,70 @@
 -- `judge::forward::judge_node` meets its contract: one law for each kind of node. Assumes nothing.
 use native.Mathlib.Omega.{arith}
-use mathlib.Core.Path.{refl}
+use mathlib.Core.Path.{ap}
 use Rattle.net.specs.Layout.{reads-low, names-below, joins-right}
+use Rattle.net.specs.Op.{code_of, code_leaf, code_binds}
 use Rattle.judge.specs.JudgeLaws.{right_leaf, right-not, right-gate, right-binds, judged-at}
 use Rattle.judge.proofs.forward.judge_node.Goals as goal
 
 pub leaf-requires : goal.leaf-requires
 leaf-requires c =
-    (c.if-op-lt3.true, λ e. omega (arith, reads-low c.requires.0 c.node_at-node.ensures.is e))
+    (code_leaf c.in-False.is, λ e. omega (arith, reads-low c.requires.0 c.node_at-node.ensures.is e))
 
-pub returns-then-op-lt3 : goal.returns-then-op-lt3
-returns-then-op-lt3 c =
-    right_leaf c.requires.0 c.node_at-node.ensures.is c.if-op-lt3.true c.leaf.ensures
-
-pub known_at-x-requires : goal.known_at-x-requires
-known_at-x-requires c =
-    omega (arith, names-below c.requires.0 c.node_at-node.ensures.is (omega (arith, c.if-op-lt3.false)), c.requires.1, c.requires.2.long)
-
-pub returns-then-op-eq3 : goal.returns-then-op-eq3
-returns-then-op-eq3 c =
-    right-not c.requires.0 c.node_at-node.ensures.is c.if-op-eq3.true (judged-at c.requires.2 c.known_at-x.ensures.0 c.known_at-x.ensures.1) c.negated.ensures
+pub returns-in-False : goal.returns-in-False
+returns-in-False c =
+    right_leaf c.requires.0 c.node_at-node.ensures.is (code_leaf c.in-False.is) c.leaf.ensures
 
 pub known_at-requires : goal.known_at-requires
 known_at-requires c =
-    omega (arith, joins-right c.requires.0 c.node_at-node.ensures.is (omega (arith, c.if-op-lt3.false, c.if-op-eq3.false)) (omega (arith, c.if-op-lt6.true)), c.requires.1, c.requires.2.long)
+    let n = ap code_of c.in-Not.is in
+    omega (arith, names-below c.requires.0 c.node_at-node.ensures.is (omega (arith, n)), c.requires.1, c.requires.2.long)
 
-pub returns-then-op-lt6 : goal.returns-then-op-lt6
-returns-then-op-lt6 c =
-    right-gate c.requires.0 c.node_at-node.ensures.is
-    (omega (arith, c.if-op-lt3.false, c.if-op-eq3.false)) (omega (arith, c.if-op-lt6.true)) refl
-    (judged-at c.requires.2 c.known_at-x.ensures.0 c.known_at-x.ensures.1)
-    (judged-at c.requires.2 c.known_at.ensures.0 c.known_at.ensures.1)
+pub returns-in-Not : goal.returns-in-Not
+returns-in-Not c =
+    right-not c.requires.0 c.node_at-node.ensures.is (ap code_of c.in-Not.is) (judged-at c.requires.2 c.known_at.ensures.0 c.known_at.ensures.1) c.negated.ensures
+
+pub known_at-requires-in-And : goal.known_at-requires-in-And
+known_at-requires-in-And c =
+    let n = ap code_of c.in-And.is in
+    omega (arith, names-below c.requires.0 c.node_at-node.ensures.is (omega (arith, n)), c.requires.1, c.requires.2.long)
+
+pub known_at-requires-in-And-2 : goal.known_at-requires-in-And-2
+known_at-requires-in-And-2 c =
+    let n = ap code_of c.in-And.is in
+    omega (arith, joins-right c.requires.0 c.node_at-node.ensures.is (omega (arith, n)) (omega (arith, n)), c.requires.1, c.requires.2.long)
+
+pub returns-in-And : goal.returns-in-And
+returns-in-And c =
+    let n = ap code_of c.in-And.is in
+    right-gate c.requires.0 c.node_at-node.ensures.is (omega (arith, n)) (omega (arith, n)) (omega (arith, n))
+    (judged-at c.requires.2 c.known_at-in-And.ensures.0 c.known_at-in-And.ensures.1)
+    (judged-at c.requires.2 c.known_at-in-And-2.ensures.0 c.known_at-in-And-2.ensures.1)
     c.joined.ensures
 
-pub returns : goal.returns
-returns c =
-    right-binds c.requires.0 c.node_at-node.ensures.is (omega (arith, c.if-op-lt6.false)) c.decided.ensures
-    (judged-at c.requires.2 c.known_at-x.ensures.0 c.known_at-x.ensures.1)
+pub known_at-requires-in-Or : goal.known_at-requires-in-Or
+known_at-requires-in-Or c =
+    let n = ap code_of c.in-Or.is in
+    omega (arith, names-below c.requires.0 c.node_at-node.ensures.is (omega (arith, n)), c.requires.1, c.requires.2.long)
+
+pub known_at-requires-in-Or-2 : goal.known_at-requires-in-Or-2
+known_at-requires-in-Or-2 c =
+    let n = ap code_of c.in-Or.is in
+    omega (arith, joins-right c.requires.0 c.node_at-node.ensures.is (omega (arith, n)) (omega (arith, n)), c.requires.1, c.requires.2.long)
+
+pub returns-in-Or : goal.returns-in-Or
+returns-in-Or c =
+    let n = ap code_of c.in-Or.is in
+    right-gate c.requires.0 c.node_at-node.ensures.is (omega (arith, n)) (omega (arith, n)) (omega (arith, n))
+    (judged-at c.requires.2 c.known_at-in-Or.ensures.0 c.known_at-in-Or.ensures.1)
+    (judged-at c.requires.2 c.known_at-in-Or-2.ensures.0 c.known_at-in-Or-2.ensures.1)
+    c.joined-in-Or.ensures
+
+pub known_at-requires-in-Exists : goal.known_at-requires-in-Exists
+known_at-requires-in-Exists c =
+    omega (arith, names-below c.requires.0 c.node_at-node.ensures.is (omega (arith, code_binds c.in-Exists.is)), c.requires.1, c.requires.2.long)
+
+pub returns-in-Exists : goal.returns-in-Exists
+returns-in-Exists c =
+    right-binds c.requires.0 c.node_at-node.ensures.is (code_binds c.in-Exists.is) c.decided.ensures
+    (judged-at c.requires.2 c.known_at-in-Exists.ensures.0 c.known_at-in-Exists.ensures.1)
     c.bound.ensures

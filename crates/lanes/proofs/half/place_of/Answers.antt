@@ -5,4 +5,4 @@ use Rattle.lanes.proofs.half.place_of.Goals as goal
 
 pub returns : goal.returns
 returns c =
-    place_is _ _ c.requires refl
+    rw c.from.ensures (place_is _ _ c.requires refl)

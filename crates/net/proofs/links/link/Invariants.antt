@@ -1,10 +1,6 @@
--- `net::links::link` meets its contract. The invariant: so far the net has other links only. Assumes nothing.
-use Prim.Native.Nat.{◌-◌}
+-- `net::links::link`: so far the net has other links only.
 use Rattle.net.specs.Link.{Linked}
 use Rattle.net.proofs.links.link.Given as goal
 
 abbrev pub invariant-loop-k : goal.invariant-loop-k
 invariant-loop-k l = Linked l.initial.net l.net
-
-abbrev pub decreases-loop-k : goal.decreases-loop-k
-decreases-loop-k l = l.n - l.k

@@ -1,4 +1,4 @@
--- `net::links::relink` meets its contract. Assumes nothing.
+-- `net::links::relink` meets its contract.
 use mathlib.Core.Path.{refl}
 use Rattle.net.specs.LinkLaws.{linked_relink}
 use Rattle.net.proofs.links.relink.Goals as goal

@@ -1,22 +1,9 @@
 -- `normal::bytes::put_narrow` meets its contract.
-use native.Mathlib.Omega.{arith}
-use lib.ListN.{length-set}
-use Rattle.words.proofs.Stores.{four_sets}
+use Rattle.std.proofs.Common.{arith}
+use Rattle.form.specs.declared.Form.TheVariants.{Narrow}
+use Rattle.normal.specs.Normal.{frame_of}
+use Rattle.words.proofs.Stores.{stored}
 use Rattle.normal.proofs.bytes.put_narrow.Goals as goal
 
-pub bounds-out-at-2 : goal.bounds-out-at-2
-bounds-out-at-2 c =
-    simp length-set (omega (arith, c.requires))
-
-pub bounds-out-at-3 : goal.bounds-out-at-3
-bounds-out-at-3 c =
-    simp length-set (omega (arith, c.requires))
-
-pub bounds-out-at-4 : goal.bounds-out-at-4
-bounds-out-at-4 c =
-    simp length-set (omega (arith, c.requires))
-
 pub returns : goal.returns
-returns c =
-    simp (c.byte-k.ensures, c.byte-a.ensures, c.byte-b.ensures, c.byte-c.ensures)
-    (four_sets c.args.out.now c.args.at _ _ _ _)
+returns c = stored c.args.at c.args.out.now (frame_of Narrow c.args.f) c.copy_from_slice.ensures.after (omega arith) c.requires.1

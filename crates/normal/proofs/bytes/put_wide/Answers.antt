@@ -1,38 +1,21 @@
 -- `normal::bytes::put_wide` meets its contract.
-use native.Mathlib.Omega.{arith}
-use lib.ListN.{length-set}
-use Rattle.words.proofs.Stores.{seven_sets}
+use Rattle.std.proofs.Common.{◌≡◌, ◌/◌, ◌%◌, [], ◌∷◌, ◌∙◌, arith}
+use Rattle.form.specs.declared.Form.TheVariants.{Wide}
+use Rattle.sheet.specs.declared.Fields.{Fields}
+use Rattle.normal.specs.Normal.{frame_of}
+use Rattle.normal.specs.Lists.{Fits}
+use Rattle.words.proofs.Stores.{stored}
 use Rattle.normal.proofs.bytes.put_wide.Goals as goal
 
-pub bounds-out-at-2 : goal.bounds-out-at-2
-bounds-out-at-2 c =
-    simp length-set (omega (arith, c.requires))
-
-pub bounds-out-at-3 : goal.bounds-out-at-3
-bounds-out-at-3 c =
-    simp length-set (omega (arith, c.requires))
-
-pub bounds-out-at-4 : goal.bounds-out-at-4
-bounds-out-at-4 c =
-    simp length-set (omega (arith, c.requires))
-
-pub bounds-out-at-5 : goal.bounds-out-at-5
-bounds-out-at-5 c =
-    simp length-set (omega (arith, c.requires))
-
-pub bounds-out-at-6 : goal.bounds-out-at-6
-bounds-out-at-6 c =
-    simp length-set (omega (arith, c.requires))
-
-pub bounds-out-at-7 : goal.bounds-out-at-7
-bounds-out-at-7 c =
-    simp length-set (omega (arith, c.requires))
-
-pub shape_of-out : goal.shape_of-out
-shape_of-out c =
-    simp length-set
+-- the higher byte is below 256
+same_bytes : {f : Fields} → Fits Wide f → f.k ∷ f.a / 256 % 256 ∷ f.a % 256 ∷ f.b / 256 % 256 ∷ f.b % 256 ∷ f.c / 256 % 256 ∷ f.c % 256 ∷ [] ≡ frame_of Wide f
+same_bytes {f} h =
+    let a : f.a / 256 % 256 ≡ f.a / 256 = omega (arith, h.a-fits) in
+    let b : f.b / 256 % 256 ≡ f.b / 256 = omega (arith, h.b-fits) in
+    let c : f.c / 256 % 256 ≡ f.c / 256 = omega (arith, h.c-fits) in
+    rw (a, b, c)
 
 pub returns : goal.returns
-returns c =
-    simp (c.byte-k.ensures, c.byte-a1.ensures, c.byte-a0.ensures, c.byte-b1.ensures, c.byte-b0.ensures, c.byte-c1.ensures, c.byte-c0.ensures)
-    (seven_sets c.args.out.now c.args.at _ _ _ _ _ _ _)
+returns c = stored c.args.at c.args.out.now (frame_of Wide c.args.f)
+    (c.copy_from_slice.ensures.after ∙ rw (c.to_be_bytes.ensures, c.to_be_bytes-2.ensures, c.to_be_bytes-3.ensures) (same_bytes c.requires.0))
+    (omega arith) c.requires.1

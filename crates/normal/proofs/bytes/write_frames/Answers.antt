@@ -1,18 +1,20 @@
--- `normal::bytes::write_frames` meets its contract: each form by its own loop.
+-- `normal::bytes::write_frames` meets its contract.
+use Rattle.std.proofs.Common.{arith, sym, ◌∙◌}
+use Rattle.normal.proofs.BytesLaws.{frame-before, frames_none, frames_next, frames_all}
 use Rattle.normal.proofs.bytes.write_frames.Goals as goal
 
-pub write_wide-requires : goal.write_wide-requires
-write_wide-requires c =
-    rw c.if-wide.true at c.requires
+pub loop-number-init : goal.loop-number-init
+loop-number-init c = sym (frames_none c.args.form c.args.kinds.now c.args.out.now)
 
-pub returns-then-wide : goal.returns-then-wide
-returns-then-wide c =
-    rw c.if-wide.true c.write_wide.ensures
+pub put_frame-requires : goal.put_frame-requires
+put_frame-requires c = (
+  rw c.fields_of.ensures (c.requires.0 c.loop-number.number c.loop-number-test.true),
+  omega (arith, c.requires.1, frame-before c.args.form c.loop-number-test.true),
+)
 
-pub write_narrow-requires : goal.write_narrow-requires
-write_narrow-requires c =
-    rw c.if-wide.false at c.requires
+pub loop-number-preserved : goal.loop-number-preserved
+loop-number-preserved c =
+    c.put_frame.ensures ∙ rw (c.fields_of.ensures, c.loop-number.invariant) (frames_next c.args.form c.args.kinds.now c.args.out.now c.loop-number.number c.loop-number-test.true)
 
 pub returns : goal.returns
-returns c =
-    rw c.if-wide.false c.write_narrow.ensures
+returns c = c.loop-number.invariant ∙ frames_all c.args.form c.args.kinds.now c.args.out.now (omega arith)

@@ -1,4 +1,4 @@
--- `phase::choice::choose_bound` meets its contract: the net has other phases only, and the set of variables falls, as a word. Assumes nothing.
+-- `phase::choice::choose_bound` meets its contract: the net has other phases only, and the set of variables falls, as a word.
 use Rattle.net.specs.Link.{Linked}
 use Rattle.phase.proofs.choice.choose_bound.Given as goal
 

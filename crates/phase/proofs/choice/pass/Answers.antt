@@ -1,24 +1,31 @@
--- `phase::choice::pass` meets its contract: what a node names stands before it, and its variable is one of 64. Assumes nothing.
-use native.Mathlib.Omega.{arith}
-use Rattle.net.specs.Layout.{reads-low, names-below, joins-right}
+-- `phase::choice::pass` meets its contract: what a node names stands before it, and its variable is one of 64.
+use Rattle.std.proofs.Common.{arith, ap}
+use Rattle.net.specs.Op.{code_of, code_gate, code_binds}
+use Rattle.net.specs.Layout.{reads-low, flips_below, joins-left, joins-right, binds-below}
 use Rattle.phase.proofs.choice.pass.Goals as goal
 
-pub bounds-uses-left : goal.bounds-uses-left
-bounds-uses-left c =
-    reads-low c.requires.0 c.node_at-node.ensures.is (omega arith)
+pub bounds-uses-node : goal.bounds-uses-node
+bounds-uses-node c =
+    reads-low c.requires.0 c.node_at-node.ensures.is (ap code_of c.in-Input.is)
 
-pub bounds-uses-left-then-op-eq2 : goal.bounds-uses-left-then-op-eq2
-bounds-uses-left-then-op-eq2 c =
-    reads-low c.requires.0 c.node_at-node.ensures.is (omega arith)
+pub bounds-uses-node-in-Input : goal.bounds-uses-node-in-Input
+bounds-uses-node-in-Input c =
+    reads-low c.requires.0 c.node_at-node.ensures.is (ap code_of c.in-Input.is)
 
 pub add-requires : goal.add-requires
 add-requires c =
-    omega (arith, names-below c.requires.0 c.node_at-node.ensures.is (omega arith), c.requires.1, c.requires.2)
+    let below = flips_below c.requires.0 c.node_at-node.ensures.is (ap code_of c.in-Not.is) in omega arith
 
-pub add-requires-2 : goal.add-requires-2
-add-requires-2 c =
-    omega (arith, names-below c.requires.0 c.node_at-node.ensures.is (omega arith), c.requires.1, c.requires.2)
+pub add-requires-in-And : goal.add-requires-in-And
+add-requires-in-And c =
+    let gate = code_gate c.in-And.is in
+    let below = joins-left c.requires.0 c.node_at-node.ensures.is gate.0 gate.1 in omega arith
 
-pub add-requires-then-op-lt6 : goal.add-requires-then-op-lt6
-add-requires-then-op-lt6 c =
-    omega (arith, joins-right c.requires.0 c.node_at-node.ensures.is (omega arith) (omega arith), c.add-2.auto.weights, c.requires.1, c.requires.2)
+pub add-requires-in-And-2 : goal.add-requires-in-And-2
+add-requires-in-And-2 c =
+    let gate = code_gate c.in-And.is in
+    let below = joins-right c.requires.0 c.node_at-node.ensures.is gate.0 gate.1 in omega (arith, c.add-in-And.auto.weights)
+
+pub add-requires-in-Exists : goal.add-requires-in-Exists
+add-requires-in-Exists c =
+    let below = binds-below c.requires.0 c.node_at-node.ensures.is (code_binds c.in-Exists.is) in omega arith

@@ -8,45 +8,33 @@ use Rattle.prenex.proofs.OpposedLaws.{all_with, codes_over, not-opposed, is-oppo
 use Rattle.prenex.proofs.clause.all_opposed.Goals as goal
 use Rattle.prenex.proofs.clause.all_opposed.Goals.{then-code-eq0+else-positive-negative-eq0, else-code-eq0+then-negative, else-code-eq0+else-negative}
 
-pub loop-i-init : goal.loop-i-init
-loop-i-init c =
-    (omega arith, sym (all_with (clauses_of c.args.codes.now)))
+pub loop-code-init : goal.loop-code-init
+loop-code-init c =
+    sym (all_with (clauses_of c.args.codes.now))
 
 pub returns-then-positive-negative-eq0 : goal.returns-then-positive-negative-eq0
 returns-then-positive-negative-eq0 c =
-    sym (c.loop-i.invariant.1 ∙ not-opposed c.args.codes.now c.loop-i.i c.loop-i.positive c.loop-i.negative c.loop-i-test.true c.if-code-eq0.true c.if-positive-negative-eq0.true)
-
-pub variable-requires : goal.variable-requires
-variable-requires c =
-    omega (arith, c.if-code-eq0.false)
+    sym (c.loop-code.invariant ∙ not-opposed c.args.codes.now c.loop-code.code-index c.loop-code.positive c.loop-code.negative c.loop-code-test.true c.if-code-eq0.true c.if-positive-negative-eq0.true)
 
 pub one-one-requires : goal.one-one-requires
 one-one-requires c =
-    variable-below _ _ (c.requires.below c.loop-i.i) c.variable.ensures
+    variable-below _ _ (c.requires.below c.loop-code.code-index) c.variable.ensures
 
-pub negative-requires : goal.negative-requires
-negative-requires c =
-    omega (arith, c.if-code-eq0.false)
-
-pub loop-i-preserved : goal.loop-i-preserved
-loop-i-preserved c =
+pub loop-code-preserved : goal.loop-code-preserved
+loop-code-preserved c =
     elim c.if-code-eq0.branch [
       | then-code-eq0+else-positive-negative-eq0 w ↦
-          (omega (arith, c.loop-i-test.true), rw (w.positive-is, w.negative-is) (c.loop-i.invariant.1 ∙ is-opposed c.args.codes.now c.loop-i.i c.loop-i.positive c.loop-i.negative c.loop-i-test.true w.if-code-eq0.true w.if-positive-negative-eq0.false))
-      | else-code-eq0+then-negative w ↦ (
-        omega (arith, c.loop-i-test.true),
-        rw (w.positive-is, w.negative-is)
-            (c.loop-i.invariant.1 ∙ sees_negative c.args.codes.now c.loop-i.i c.loop-i.positive c.loop-i.negative (omega (arith, c.requires.ended c.loop-i.i (omega (arith, w.if-code-eq0.false)))) w.if-code-eq0.false
-            (w.one-one.ensures ∙ ap (λ (x : ℕ). 2 ^ x) w.variable.ensures) (sym w.negative.ensures ∙ w.if-negative.true)),
-      )
-      | else-code-eq0+else-negative w ↦ (
-        omega (arith, c.loop-i-test.true),
-        rw (w.positive-is, w.negative-is)
-            (c.loop-i.invariant.1 ∙ sees_positive c.args.codes.now c.loop-i.i c.loop-i.positive c.loop-i.negative (omega (arith, c.requires.ended c.loop-i.i (omega (arith, w.if-code-eq0.false)))) w.if-code-eq0.false
-            (w.one-one.ensures ∙ ap (λ (x : ℕ). 2 ^ x) w.variable.ensures) (sym w.negative.ensures ∙ w.if-negative.false)),
-      )
+          rw (w.positive-is, w.negative-is) (c.loop-code.invariant ∙ is-opposed c.args.codes.now c.loop-code.code-index c.loop-code.positive c.loop-code.negative c.loop-code-test.true w.if-code-eq0.true w.if-positive-negative-eq0.false)
+      | else-code-eq0+then-negative w ↦
+          rw (w.positive-is, w.negative-is)
+          (c.loop-code.invariant ∙ sees_negative c.args.codes.now c.loop-code.code-index c.loop-code.positive c.loop-code.negative (omega (arith, c.requires.ended c.loop-code.code-index (omega (arith, w.if-code-eq0.false)))) w.if-code-eq0.false
+          (w.one-one.ensures ∙ ap (λ (x : ℕ). 2 ^ x) w.variable.ensures) (sym w.negative.ensures ∙ w.if-negative.true))
+      | else-code-eq0+else-negative w ↦
+          rw (w.positive-is, w.negative-is)
+          (c.loop-code.invariant ∙ sees_positive c.args.codes.now c.loop-code.code-index c.loop-code.positive c.loop-code.negative (omega (arith, c.requires.ended c.loop-code.code-index (omega (arith, w.if-code-eq0.false)))) w.if-code-eq0.false
+          (w.one-one.ensures ∙ ap (λ (x : ℕ). 2 ^ x) w.variable.ensures) (sym w.negative.ensures ∙ w.if-negative.false))
     ]
 
 pub returns : goal.returns
 returns c =
-    sym (c.loop-i.invariant.1 ∙ codes_over c.args.codes.now c.loop-i.i c.loop-i.positive c.loop-i.negative c.loop-i-test.false)
+    sym (c.loop-code.invariant ∙ codes_over c.args.codes.now c.loop-code.code-index c.loop-code.positive c.loop-code.negative c.loop-code-test.false)

@@ -6,7 +6,4 @@ use Rattle.prenex.specs.Kinds.{count}
 use Rattle.prenex.proofs.literal.rank.Given as goal
 
 abbrev pub invariant-loop-y : goal.invariant-loop-y
-invariant-loop-y l = (l.y ≤ l.x) × (l.n ≤ l.y) × (count (bit l.word) 0 l.x ≡ l.n + count (bit l.word) l.y (l.x - l.y))
-
-abbrev pub decreases-loop-y : goal.decreases-loop-y
-decreases-loop-y l = l.x - l.y
+invariant-loop-y l = (l.n ≤ l.y) × (count (bit l.word) 0 l.x ≡ l.n + count (bit l.word) l.y (l.x - l.y))

@@ -3,41 +3,20 @@ use native.Mathlib.Omega.{arith}
 use mathlib.Core.Path.{sym, ◌∙◌}
 use Rattle.words.specs.Word.{bit}
 use Rattle.sheet.specs.declared.Kind.TheVariants.{Input}
-use Rattle.prenex.proofs.StoreLaws.{input-bytes}
-use Rattle.prenex.proofs.LiteralLaws.{stored-start, stored_has, stored_lacks, stored-end}
+use Rattle.prenex.proofs.LiteralLaws.{stored_has, stored_lacks, stored-end}
 use Rattle.prenex.proofs.literal.write_inputs.Goals as goal
 use Rattle.prenex.proofs.literal.write_inputs.Goals.{then-has, else-has}
 
-pub loop-x-init : goal.loop-x-init
-loop-x-init c =
-    (omega arith, stored-start (bit c.args.all) Input 0 c.args.out.now)
-
-pub put-requires : goal.put-requires
-put-requires c = (
-  c.loop-x.invariant.1.same ∙ c.requires,
-  λ _. (omega (arith, c.loop-x-test.true), omega arith, omega arith),
-)
-
-pub overflow_add-n : goal.overflow_add-n
-overflow_add-n c =
-    record { fits = omega (arith, c.loop-x.invariant.0, c.loop-x.invariant.1.few) }
-
 pub loop-x-preserved : goal.loop-x-preserved
-loop-x-preserved c = (
-  omega (arith, c.loop-x-test.true),
-  elim c.if-has.branch [
-    | then-has w ↦ stored_has (bit c.args.all) Input 0 c.args.out.now c.loop-x.x c.loop-x.n c.loop-x.out c.loop-x.invariant.1 c.loop-x-test.true _ _
-        (sym c.has.ensures ∙ w.if-has.true) w.n-is (rw input-bytes (w.out-is ∙ w.put.ensures))
-    | else-has w ↦ stored_lacks (bit c.args.all) Input 0 c.args.out.now c.loop-x.x c.loop-x.n c.loop-x.out c.loop-x.invariant.1 c.loop-x-test.true _ _
-        (sym c.has.ensures ∙ w.if-has.false) w.n-is w.out-is
-  ],
-)
-
-pub shape_of-out : goal.shape_of-out
-shape_of-out c =
-    c.loop-x.invariant.1.same
+loop-x-preserved c =
+    elim c.if-has.branch [
+      | then-has w ↦ stored_has (bit c.args.all) Input 0 c.args.out.now c.loop-x.x c.loop-x.n c.loop-x.out c.loop-x.invariant c.loop-x-test.true _ _
+          (sym c.has.ensures ∙ w.if-has.true) w.n-is (w.out-is ∙ rw w.from.ensures at w.put.ensures)
+      | else-has w ↦ stored_lacks (bit c.args.all) Input 0 c.args.out.now c.loop-x.x c.loop-x.n c.loop-x.out c.loop-x.invariant c.loop-x-test.true _ _
+          (sym c.has.ensures ∙ w.if-has.false) w.n-is w.out-is
+    ]
 
 pub returns : goal.returns
 returns c =
-    let e = stored-end (bit c.args.all) Input 0 c.args.out.now c.loop-x.x c.loop-x.n c.loop-x.out c.loop-x.invariant.1 c.loop-x-test.false in
-    (omega (arith, e.0), omega (arith, c.loop-x.invariant.0, c.loop-x.invariant.1.few), e.1)
+    let e = stored-end (bit c.args.all) Input 0 c.args.out.now c.loop-x.x c.loop-x.n c.loop-x.out c.loop-x.invariant c.loop-x-test.false in
+    (omega (arith, e.0), omega arith, e.1)

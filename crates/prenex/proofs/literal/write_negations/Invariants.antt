@@ -1,5 +1,5 @@
 -- `prenex::literal::write_negations` meets its contract. The invariant: the stores that are left give what all stores give. Assumes nothing.
-use Prim.Native.Nat.{ℕ, ◌-◌, ◌≤◌}
+use Prim.Native.Nat.{ℕ}
 use Rattle.words.specs.Word.{bit}
 use Rattle.sheet.specs.declared.Kind.{Kind}
 use Rattle.sheet.specs.declared.Kind.TheVariants.{Not}
@@ -12,7 +12,4 @@ abbrev pub negation : ℕ → ℕ → Kind
 negation all x = Not (count (bit all) 0 x)
 
 abbrev pub invariant-loop-x : goal.invariant-loop-x
-invariant-loop-x l = (l.x ≤ 32) × Stored (bit l.negated) (negation l.all) l.inputs l.initial.out l.x l.n l.out
-
-abbrev pub decreases-loop-x : goal.decreases-loop-x
-decreases-loop-x l = 32 - l.x
+invariant-loop-x l = Stored (bit l.negated) (negation l.all) l.inputs l.initial.out l.x l.n l.out

@@ -11,7 +11,7 @@ returns-then-all_opposed c =
 
 pub load-requires : goal.load-requires
 load-requires c =
-    (matrix_checked c.requires c.find_occurring-found.ensures.0, omega (arith, matrix-ungauged c.requires), record { is = refl })
+    (rw c.from.ensures (matrix_checked c.requires c.find_occurring-found.ensures.0), omega (arith, matrix-ungauged c.requires), record { is = refl })
 
 pub ask-answer-requires : goal.ask-answer-requires
 ask-answer-requires c =

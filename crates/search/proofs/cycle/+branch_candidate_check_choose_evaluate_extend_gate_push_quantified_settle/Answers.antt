@@ -1,15 +1,16 @@
 -- The cycle of the search meets its contracts: each call is on a smaller node, or on the same node with fewer variables loose or a step further down.
 -- Assumes nothing.
-use Rattle.std.proofs.Common.{refl, sym, ◌∙◌, arith}
+use Rattle.std.proofs.Common.{refl, sym, ap, ◌∙◌, arith}
 use Rattle.words.proofs.Mask.{top_bit, top_less}
-use Rattle.net.specs.Layout.{decides-some, reads-low, flips_below, joins-left, joins-right, binds-below}
+use Rattle.net.specs.Op.{code_of, code_leaf, code_binds}
+use Rattle.net.specs.Layout.{number-some, number-not, number-is, number_other, reads-low, flips_below, joins-left, joins-right, binds-below}
 use Rattle.judge.specs.JudgeLaws.{judged-at, judging_none, judging_then}
 use Rattle.judge.specs.CellLaws.{trail_none}
 use Rattle.proxies.proofs.Growing.{growing_same, growing_then}
 use Rattle.proxies.specs.KeptLaws.{recorded_told}
 use Rattle.search.specs.SearchLaws.{checked_flip, checked_left, checked_right, lent-after, body_less}
-use Rattle.search.specs.SearchLaws.{told_met, told_missed, told_leaf, told_flip, told-left, told-right, told-both, told-shown}
-use Rattle.search.specs.SearchLaws.{known-lost, posed_checked, posed_half, posed_body}
+use Rattle.search.specs.SearchLaws.{told_solved, told_leaf, told_flip, told-left, told-right, told-both, told-shown}
+use Rattle.search.specs.SearchLaws.{known_solved, posed_checked, posed_half, posed_body}
 use Rattle.imply.specs.ForceLaws.{forced_less, forced_met, posed_forced, pushed-lost}
 use Rattle.imply.specs.Halves.{first_met, second_met, half-lost, both-lost}
 use Rattle.search.proofs.cycle.+branch_candidate_check_choose_evaluate_extend_gate_push_quantified_settle.Goals as goal
@@ -73,7 +74,7 @@ branch-returns-clause-solved t c =
     let highest = c.highest-x.ensures in
     let low = c.extend-low.ensures.solved in
     let high = c.extend-high.ensures.solved in (
-      both-lost highest.0 highest.1 c.one-only.ensures c.without-rest.ensures c.requires.posed.free _ c.fix-begun.ensures (rw c.if-low.false at low.0) c.fix-turned.ensures (rw c.if-high.false at high.0) c.without.ensures,
+      rw c.if-high.false (both-lost highest.0 highest.1 c.one-only.ensures c.without-rest.ensures c.requires.posed.free _ c.fix-begun.ensures (rw c.if-low.false at low.0) c.fix-turned.ensures (rw c.if-high.false at high.0) c.without.ensures),
       high.1 ∙ low.1,
     )
 
@@ -85,15 +86,14 @@ candidate-check-c-requires t c = (omega (arith, c.decreases), ((c.requires.posed
 pub candidate-undo-requires : goal.candidate-undo-requires
 candidate-undo-requires t c = (_, c.check-c.ensures.told.1.keeps _ (trail_none refl refl))
 
-pub candidate-returns-then-c-target-clause-solved : goal.candidate-returns-then-c-target-clause-solved
-candidate-returns-then-c-target-clause-solved t c =
+pub candidate-returns : goal.candidate-returns
+candidate-returns t c =
     let told = c.check-c.ensures.told in
-    (told_met c.requires.posed told.0 c.if-c-target.true, c.undo.ensures _ (told.1.keeps _ (trail_none refl refl)))
-
-pub candidate-returns-clause-solved : goal.candidate-returns-clause-solved
-candidate-returns-clause-solved t c =
-    let told = c.check-c.ensures.told in
-    (told_missed c.requires.posed told.0 c.if-c-target.false, c.undo.ensures _ (told.1.keeps _ (trail_none refl refl)))
+    let s = c.verdict.ensures in
+    rw (s.2, s.3, s.4) (record {
+      solved = (told_solved c.requires.posed told.0 _ s.0 s.1, c.undo.ensures _ (told.1.keeps _ (trail_none refl refl)));
+      growing = c.check-c.ensures.growing;
+    })
 
 -- ---- choose
 
@@ -112,31 +112,49 @@ choose-implicant-why-requires t c =
       checked.grounded,
       omega (arith, checked.grounded.room, checked.here, binds-below checked.grounded here.0 here.1),
       omega (arith, c.requires.lent.long, c.extend-out.auto.wants),
-      rw c.decided-d.ensures (decides-some _),
     )
 
 -- ---- evaluate
 
 pub evaluate-leaf-known-requires : goal.evaluate-leaf-known-requires
-evaluate-leaf-known-requires t c = (c.if-op-lt3.true, λ e. reads-low c.requires.i_bound.1.grounded c.node_at-node.ensures.is e)
+evaluate-leaf-known-requires t c = (code_leaf c.in-False.is, λ e. reads-low c.requires.i_bound.1.grounded c.node_at-node.ensures.is e)
 
-pub evaluate-returns-then-op-lt3-clause-told : goal.evaluate-returns-then-op-lt3-clause-told
-evaluate-returns-then-op-lt3-clause-told t c =
+pub evaluate-returns-in-False-clause-told : goal.evaluate-returns-in-False-clause-told
+evaluate-returns-in-False-clause-told t c =
     let checked = c.requires.i_bound.1 in
-    (told_leaf checked c.node_at-node.ensures.is c.if-op-lt3.true c.leaf-known.ensures, judging_none checked.judged)
+    (told_leaf checked c.node_at-node.ensures.is (code_leaf c.in-False.is) c.leaf-known.ensures, judging_none checked.judged)
 
 pub evaluate-check-c-requires : goal.evaluate-check-c-requires
 evaluate-check-c-requires t c =
     let checked = c.requires.i_bound.1 in
-    let here = c.node_at-node.ensures.is in (
-      omega (arith, c.decreases, flips_below checked.grounded here c.if-op-eq3.true),
-      (checked_flip checked here c.if-op-eq3.true checked.judged, c.requires.lent),
+    let here = c.node_at-node.ensures.is in
+    let not = ap code_of c.in-Not.is in (
+      omega (arith, c.decreases, flips_below checked.grounded here not),
+      (checked_flip checked here not checked.judged, c.requires.lent),
     )
 
-pub evaluate-returns-then-op-eq3-clause-told : goal.evaluate-returns-then-op-eq3-clause-told
-evaluate-returns-then-op-eq3-clause-told t c =
+pub evaluate-returns-in-Not-clause-told : goal.evaluate-returns-in-Not-clause-told
+evaluate-returns-in-Not-clause-told t c =
     let told = c.check-c.ensures.told in
-    (told_flip c.requires.i_bound.1 c.node_at-node.ensures.is c.if-op-eq3.true told.0, told.1)
+    (rw (number-not c.check-c.result.known.truth) (told_flip c.requires.i_bound.1 c.node_at-node.ensures.is (ap code_of c.in-Not.is) told.0), told.1)
+
+pub evaluate-gate-requires : goal.evaluate-gate-requires
+evaluate-gate-requires t c =
+    let and = ap code_of c.in-And.is in (
+      omega (arith, c.decreases),
+      ((c.node_at-node.ensures.is, omega (arith, and), omega (arith, and), omega (arith, and)), (c.requires.i_bound, c.requires.lent)),
+    )
+
+pub evaluate-gate-requires-in-Or : goal.evaluate-gate-requires-in-Or
+evaluate-gate-requires-in-Or t c =
+    let or = ap code_of c.in-Or.is in (
+      omega (arith, c.decreases),
+      ((c.node_at-node.ensures.is, omega (arith, or), omega (arith, or), omega (arith, or)), (c.requires.i_bound, c.requires.lent)),
+    )
+
+pub evaluate-quantified-requires : goal.evaluate-quantified-requires
+evaluate-quantified-requires t c =
+    (omega (arith, c.decreases), ((c.node_at-node.ensures.is, code_binds c.in-Exists.is), (c.requires.i_bound, c.requires.lent)))
 
 -- ---- extend
 
@@ -162,7 +180,7 @@ pub gate-returns-then-c-d-clause-told : goal.gate-returns-then-c-d-clause-told
 gate-returns-then-c-d-clause-told t c =
     let here = c.requires.is in
     let left = c.check-c.ensures.told in
-    (told-left c.requires.i_bound.1 here.0 here.1 here.2 refl left.0 c.if-c-d.true, left.1)
+    (told-left c.requires.i_bound.1 here.0 here.1 here.2 here.3 left.0 (number-is _ _ c.if-c-d.true), left.1)
 
 pub gate-check-e-requires : goal.gate-check-e-requires
 gate-check-e-requires t c =
@@ -181,7 +199,7 @@ gate-returns-then-e-d-clause-told t c =
     let here = c.requires.is in
     let left = c.check-c.ensures.told in
     let right = c.check-e.ensures.told in
-    (told-right c.requires.i_bound.1 here.0 here.1 here.2 refl right.0 c.if-e-d.true, judging_then left.1 right.1)
+    (told-right c.requires.i_bound.1 here.0 here.1 here.2 here.3 right.0 (number-is _ _ c.if-e-d.true), judging_then left.1 right.1)
 
 pub gate-returns-then-e-d-clause-growing : goal.gate-returns-then-e-d-clause-growing
 gate-returns-then-e-d-clause-growing t c = growing_then c.check-c.ensures.growing c.check-e.ensures.growing
@@ -191,7 +209,7 @@ gate-returns-clause-told t c =
     let here = c.requires.is in
     let left = c.check-c.ensures.told in
     let right = c.check-e.ensures.told in
-    (told-both c.requires.i_bound.1 here.0 here.1 here.2 refl left.0 c.if-c-d.false right.0 c.if-e-d.false, judging_then left.1 right.1)
+    (told-both c.requires.i_bound.1 here.0 here.1 here.2 here.3 left.0 (number_other _ _ c.if-c-d.false) right.0 (number_other _ _ c.if-e-d.false), judging_then left.1 right.1)
 
 pub gate-returns-clause-growing : goal.gate-returns-clause-growing
 gate-returns-clause-growing t c = growing_then c.check-c.ensures.growing c.check-e.ensures.growing
@@ -217,15 +235,15 @@ push-returns-then-out-clause-solved t c =
 pub push-returns-clause-solved : goal.push-returns-clause-solved
 push-returns-clause-solved t c =
     let out = c.extend-out.ensures.solved in
-    (pushed-lost c.requires.posed c.force-f.ensures.0 c.without-rest.ensures refl refl (rw c.if-out.false at out.0) refl c.gather-why.ensures c.without.ensures refl, out.1)
+    (rw c.if-out.false (pushed-lost c.requires.posed c.force-f.ensures.0 c.without-rest.ensures refl refl (rw c.if-out.false at out.0) refl c.gather-why.ensures c.without.ensures refl), out.1)
 
 -- ---- quantified
 
-pub quantified-returns-then-known-ne0-clause-told : goal.quantified-returns-then-known-ne0-clause-told
-quantified-returns-then-known-ne0-clause-told t c =
+pub quantified-returns-in-Some-clause-told : goal.quantified-returns-in-Some-clause-told
+quantified-returns-in-Some-clause-told t c =
     let checked = c.requires.i_bound.1 in
     let lent = c.requires.lent in
-    ((recorded_told checked.grounded lent.faithful lent.tables checked.covers (omega (arith, c.if-known-ne0.true)) c.recorded-known.ensures).0, judging_none checked.judged)
+    ((recorded_told checked.grounded lent.faithful lent.tables checked.covers (number-some _) (rw c.in-Some.is at c.recorded.ensures)).0, judging_none checked.judged)
 
 pub quantified-returns : goal.quantified-returns
 quantified-returns t c =
@@ -242,8 +260,9 @@ quantified-returns t c =
 
 -- ---- settle
 
-pub settle-returns-then-known-ne0-clause-solved : goal.settle-returns-then-known-ne0-clause-solved
-settle-returns-then-known-ne0-clause-solved t c =
+pub settle-returns-in-Some : goal.settle-returns-in-Some
+settle-returns-in-Some t c =
     let posed = c.requires.posed in
-    let known = c.known_at-known.ensures in
-    (known-lost posed (omega (arith, c.if-known-ne0.true)) (judged-at posed.judged known.0 known.1) c.if-known-target.false, refl)
+    let known = rw c.in-Some.is at c.known_at.ensures in
+    let s = c.verdict.ensures in
+    rw (s.2, s.3, s.4) (record { solved = (known_solved posed _ (number-some _) (judged-at posed.judged known.0 known.1) s.0 s.1, refl); growing = growing_same })

@@ -1,4 +1,5 @@
 -- `session::line::ask` meets its contract.
+use Rattle.std.proofs.Common.{refl}
 use Rattle.session.proofs.Sound.{net_ready}
 use Rattle.session.proofs.StepLaws.{searched}
 use Rattle.session.proofs.line.ask.Goals as goal
@@ -13,5 +14,5 @@ returns c = record {
   searches = λ s d.
       let w = d.sound.words in
       let f = c.ask-asked.ensures.same s (net_ready d) in
-      (searched (rw (w.mask_is, w.values_are) at f.0) f.1 c.recount-next.ensures c.tell_verdict-answer.ensures, rw (c.recount-next.ensures.under, c.recount-next.ensures.over, ← w.mask_is, ← w.values_are) f.2);
+      (searched (rw (w.mask_is, w.values_are) at f.0) f.1 (record { entries = refl; len = refl; entered = refl; under = refl; over = refl }) c.tell_verdict-answer.ensures, rw (← w.mask_is, ← w.values_are) f.2);
 }

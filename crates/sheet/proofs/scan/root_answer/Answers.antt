@@ -1,5 +1,4 @@
 -- `sheet::scan::root_answer` meets its contract: the words have a place in common exactly if the sets do.
-use mathlib.Core.Path.{◌∙◌}
 use borrow.Author.Tests.{eq-eqb, ne_eqb}
 use native.Mathlib.Nat.{lt_of_le_of_lt}
 use lib.Bits.{and_le_r}
@@ -10,7 +9,7 @@ pub returns-then-seen-word-ne0 : goal.returns-then-seen-word-ne0
 returns-then-seen-word-ne0 c =
     let m = meet-bits c.args.form c.args.seen.bound c.args.word (lt_of_le_of_lt (and_le_r c.args.seen.bound c.args.word) c.requires) in
     let t = ne_eqb _ _ c.if-seen-word-ne0.true in
-    record { number_is = c.refused.ensures.0 ∙ simp (m, t); place_is = c.refused.ensures.1 ∙ simp (m, t); free-is = c.refused.ensures.2 ∙ simp (m, t); gauges_are = c.refused.ensures.3 ∙ simp (m, t) }
+    record { number_is = simp (m, t); place_is = simp (m, t); free-is = simp (m, t); gauges_are = simp (m, t) }
 
 pub returns : goal.returns
 returns c =

@@ -6,11 +6,11 @@ use Rattle.solver.proofs.question.pose.Goals as goal
 
 pub layer-outer-requires : goal.layer-outer-requires
 layer-outer-requires c =
-    let S = first_stacked c.requires.1 c.layer-inner.ensures in (S.grounded, omega (arith, S.frames-same, S.some), omega (arith, c.layer-inner.ensures.low), omega arith, omega arith)
+    let S = first_stacked c.requires.1 c.layer-inner.ensures in (S.grounded, omega (arith, S.frames-same, S.some), omega (arith, c.layer-inner.ensures.low))
 
 pub choose-requires : goal.choose-requires
 choose-requires c =
-    let S = second_stacked c.requires.1 c.layer-inner.ensures c.layer-outer.ensures in (S.grounded, omega (arith, S.frames-same, S.some), second_low c.requires.1 c.layer-inner.ensures c.layer-outer.ensures, c.requires.1.target_some, c.requires.1.target_low)
+    let S = second_stacked c.requires.1 c.layer-inner.ensures c.layer-outer.ensures in (S.grounded, omega (arith, S.frames-same, S.some), second_low c.requires.1 c.layer-inner.ensures c.layer-outer.ensures)
 
 pub overflow_add-result : goal.overflow_add-result
 overflow_add-result c =

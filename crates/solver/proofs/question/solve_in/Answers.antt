@@ -1,13 +1,7 @@
 -- `solver::question::solve_in` meets its contract: the search of the quantifiers that the question put behind the frames. Assumes nothing.
 use Rattle.net.specs.OwnLaws.{stacked_back}
-use lib.ListN.{length}
-use mathlib.Core.Path.{ap}
-use Rattle.solver.specs.QuestionLaws.{asked-room, asked_ground, asked-blank, asked_checked, asked-lent, asked_binds, asked-body, asked_solved, asked_grown}
+use Rattle.solver.specs.QuestionLaws.{asked_ground, asked-blank, asked_checked, asked-lent, asked_binds, asked-body, asked_solved, asked_grown}
 use Rattle.solver.proofs.question.solve_in.Goals as goal
-
-pub node_at-node-requires : goal.node_at-node-requires
-node_at-node-requires c =
-    asked-room c.requires.asking.1 (c.pose-own.ensures c.requires.asking.0 c.requires.asking.1.masks)
 
 pub judge-requires : goal.judge-requires
 judge-requires c =
@@ -20,14 +14,6 @@ choose-out-requires c =
       checked = asked_checked c.requires.asking.1 P c.judge.ensures.judged;
       lent = asked-lent c.requires.asking.1 P c.requires.scratch;
     }
-
-pub forget-requires : goal.forget-requires
-forget-requires c =
-    asked_ground c.requires.asking.1 (c.pose-own.ensures c.requires.asking.0 c.requires.asking.1.masks)
-
-pub shape_of-net : goal.shape_of-net
-shape_of-net c =
-    ap length (stacked_back (c.pose-own.ensures c.requires.asking.0 c.requires.asking.1.masks).stacked c.forget.ensures)
 
 pub returns : goal.returns
 returns c =

@@ -1,5 +1,4 @@
 -- `solver::reason::gauged` meets its contract: the fold from the entries, for either verdict. Assumes nothing.
-use native.Mathlib.Omega.{arith}
 use mathlib.Core.Path.{◌∙◌}
 use Rattle.records.proofs.Both.{tables_then}
 use Rattle.solver.specs.WhyLaws.{ready_entered, gauged_aimed, held-fails, held-assured, reason-no, reason-yes}
@@ -10,7 +9,7 @@ reduced-left-requires c =
     let a = c.unread-all.ensures c.requires.0.0 c.requires.0.1.net_of in
     let b = c.ours-some.ensures c.requires.0.0 c.requires.0.1.net_of in
     let K = c.failing-s.ensures.settled c.requires.0.0 c.requires.0.1 in record {
-      v_nonzero = (omega arith, omega arith, rw c.failing-s.ensures.net_unchanged (gauged_aimed c.requires.0.1 a b c.of-entered.ensures));
+      aimed = rw c.failing-s.ensures.net_unchanged (gauged_aimed c.requires.0.1 a b c.of-entered.ensures);
       ready = (c.requires.0.0, rw c.failing-s.ensures.net_unchanged (ready_entered c.requires.0.1 c.of-entered.ensures K.1), held-fails c.requires.0.1 a b c.of-entered.ensures (rw c.if-s.true at K.0) c.without.ensures);
     }
 
@@ -31,7 +30,7 @@ reduced-left-requires-2 c =
     let a = c.unread-all.ensures c.requires.0.0 c.requires.0.1.net_of in
     let b = c.ours-some.ensures c.requires.0.0 c.requires.0.1.net_of in
     let K = c.failing-s.ensures.settled c.requires.0.0 c.requires.0.1 in record {
-      v_nonzero = (omega arith, omega arith, rw c.failing-s.ensures.net_unchanged (gauged_aimed c.requires.0.1 a b c.of-entered.ensures));
+      aimed = rw c.failing-s.ensures.net_unchanged (gauged_aimed c.requires.0.1 a b c.of-entered.ensures);
       ready = (c.requires.0.0, rw c.failing-s.ensures.net_unchanged (ready_entered c.requires.0.1 c.of-entered.ensures K.1), held-assured c.requires.0.1 a b c.of-entered.ensures (rw c.if-s.false at K.0));
     }
 

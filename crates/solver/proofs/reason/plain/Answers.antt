@@ -1,5 +1,4 @@
 -- `solver::reason::plain` meets its contract: document 01's start for each verdict, and the fold. Assumes nothing.
-use native.Mathlib.Omega.{arith}
 use mathlib.Core.Path.{◌∙◌}
 use Rattle.records.proofs.Both.{tables_then}
 use Rattle.solver.specs.Ask.{ready_grown}
@@ -16,7 +15,7 @@ pub reduced-left-requires : goal.reduced-left-requires
 reduced-left-requires c =
     let h = rw c.if-s.true at c.solve-s.ensures.settled in
     let G = ready_grown c.requires.1 c.solve-s.ensures.growing in record {
-      v_nonzero = (omega arith, omega arith, aimed_none _ _);
+      aimed = aimed_none _ _;
       ready = (c.requires.0, rw c.solve-s.ensures.net_unchanged (ready_yes c.requires.1 c.free-free.ensures c.without.ensures c.of-entered.ensures h c.of.ensures G), held-yes c.requires.1 c.free-free.ensures c.without.ensures c.of-entered.ensures h c.of.ensures);
     }
 
@@ -34,7 +33,7 @@ pub reduced-left-requires-2 : goal.reduced-left-requires-2
 reduced-left-requires-2 c =
     let h = rw c.if-s.false at c.solve-s.ensures.settled in
     let G = ready_grown c.requires.1 c.solve-s.ensures.growing in record {
-      v_nonzero = (omega arith, omega arith, aimed_none _ _);
+      aimed = aimed_none _ _;
       ready = (c.requires.0, rw c.solve-s.ensures.net_unchanged (ready_entered c.requires.1 c.of-entered.ensures G), held-no c.requires.1 c.free-free.ensures c.without.ensures c.of-entered.ensures h);
     }
 

@@ -1,7 +1,5 @@
 -- `solver::reason::reduced` meets its contract: the loop is the definition's fold from the last variable to the first. Assumes nothing.
 use native.Mathlib.Omega.{arith}
-use mathlib.Core.Path.{ap}
-use lib.ListN.{length}
 use Rattle.solver.specs.Aim.{aimed_less}
 use Rattle.solver.specs.Why.{turning_start, turning_next, turning-end}
 use Rattle.solver.proofs.reason.reduced.Goals as goal
@@ -13,25 +11,13 @@ loop-x-init c =
 pub dropped-left-requires : goal.dropped-left-requires
 dropped-left-requires c =
     let J = c.loop-x.invariant.each c.requires.ready.0 c.requires.ready.1 c.requires.ready.2 in record {
-      v_nonzero = (c.requires.v_nonzero.0, c.requires.v_nonzero.1, omega (arith, c.loop-x.invariant.low));
-      aimed = ((c.requires.ready.0, rw c.loop-x.invariant.same J.ready), rw c.loop-x.invariant.same (aimed_less c.requires.v_nonzero.2 J.less));
+      variable_low = omega (arith, c.loop-x.invariant.low);
+      aimed = ((c.requires.ready.0, rw c.loop-x.invariant.same J.ready), rw c.loop-x.invariant.same (aimed_less c.requires.aimed J.less));
     }
 
 pub loop-x-preserved : goal.loop-x-preserved
 loop-x-preserved c =
     turning_next c.loop-x.invariant c.loop-x-test.true c.dropped-left.ensures.net_unchanged c.dropped-left.ensures.turned
-
-pub shape_of-net : goal.shape_of-net
-shape_of-net c =
-    ap length c.loop-x.invariant.same
-
-pub shape_of-under : goal.shape_of-under
-shape_of-under c =
-    (c.loop-x.invariant.each c.requires.ready.0 c.requires.ready.1 c.requires.ready.2).kept.under.same
-
-pub shape_of-over : goal.shape_of-over
-shape_of-over c =
-    (c.loop-x.invariant.each c.requires.ready.0 c.requires.ready.1 c.requires.ready.2).kept.over.same
 
 pub returns : goal.returns
 returns c = record {

@@ -4,17 +4,12 @@ use Rattle.solver.specs.Ask.{ready_grown, answered_yes, answered_no}
 use Rattle.net.specs.Sheet.{net-form}
 use Rattle.search.specs.SearchLaws.{tables_fit}
 use Rattle.proxies.proofs.KeptLaws.{low_fits}
-use native.Mathlib.Omega.{arith}
 use mathlib.Core.Path.{◌∙◌}
 use Rattle.solver.proofs.verdict.chosen.Goals as goal
 
 pub solve-s-requires : goal.solve-s-requires
 solve-s-requires c =
     (c.requires.0, plain_asking c.requires.1 c.free-free.ensures c.without.ensures c.of.ensures)
-
-pub overflow_cast-last : goal.overflow_cast-last
-overflow_cast-last c =
-    omega (arith, c.frames-last.ensures, c.requires.1.net_of.grounded.room, c.requires.1.net_of.grounded.few)
 
 pub ensure-n-requires : goal.ensure-n-requires
 ensure-n-requires c = (
@@ -29,10 +24,6 @@ returns-then-s c =
       net_unchanged = c.solve-s.ensures.net_unchanged;
       same = λ s R. answered_yes R c.form-form.ensures c.free-free.ensures c.without.ensures c.of.ensures c.frames-last.ensures c.solve-s.ensures.growing (rw c.if-s.true at c.solve-s.ensures.settled) c.low.ensures c.low-then-s.ensures c.low-then-s-2.ensures c.ensure-n.ensures;
     }
-
-pub overflow_cast-last-2 : goal.overflow_cast-last-2
-overflow_cast-last-2 c =
-    omega (arith, c.frames-last.ensures, c.requires.1.net_of.grounded.room, c.requires.1.net_of.grounded.few)
 
 pub ensure-n-requires-2 : goal.ensure-n-requires-2
 ensure-n-requires-2 c = (

@@ -1,51 +1,33 @@
--- `text::frame::put_bytes` meets its contract. The invariant: the stores that are left give what all stores give. Assumes nothing.
-use Prim.Native.Nat.{suc, ◌+◌, ◌-◌, ◌*◌}
-use native.Mathlib.Omega.{arith}
-use native.Mathlib.Numerals.{unary_clauses}
-use mathlib.Core.Path.{◌≡◌, refl, sym, ◌∙◌}
-use lib.ListN.{length-set}
-use lib.Seq.{drop-drop}
-use Rattle.text.proofs.LineLaws.{digits_two, bytes-put, bytes-none}
+use Rattle.std.proofs.Common.{◌≡◌, ◌∙◌, suc, ◌+◌, ◌-◌, ◌*◌, length, arith, sym}
+use Rattle.std.proofs.lemmas.List.{take_rest}
+use Rattle.text.specs.Line.{bytes}
+use Rattle.text.proofs.LineLaws.{digits-within, digits-later, digits_two, bytes-length, bytes-put, bytes-none}
+use Rattle.text.proofs.LineStores.{sets_whole}
 use Rattle.text.proofs.frame.put_bytes.Goals as goal
 
 pub loop-i-init : goal.loop-i-init
-loop-i-init c =
-    (omega arith, omega arith, omega arith, refl, simp unary_clauses c.requires.1, simp unary_clauses)
+loop-i-init c = let z : length c.args.out.now - 0 ≡ length c.args.out.now = omega arith in rw z
+
+pub slice_bounds-byte-count : goal.slice_bounds-byte-count
+slice_bounds-byte-count c = omega (arith, digits-within (2 * length c.args.out.now) c.args.rest.now c.requires)
+
+pub slice_bounds-byte-start : goal.slice_bounds-byte-start
+slice_bounds-byte-start c = omega (arith, digits-within (2 * length c.args.out.now) c.args.rest.now c.requires)
 
 pub byte-requires : goal.byte-requires
 byte-requires c =
-    let e : 2 * (c.args.count - c.loop-i.i) ≡ suc (suc (2 * (c.args.count - (c.loop-i.i + 1)))) = omega (arith, c.loop-i-test.true) in
-    (omega (arith, c.loop-i-test.true, c.loop-i.invariant, c.requires), (digits_two _ _ (rw e at c.loop-i.invariant.4)).0)
-
-pub bounds-out-to : goal.bounds-out-to
-bounds-out-to c =
-    omega (arith, c.loop-i-test.true, c.loop-i.invariant, c.requires)
-
-pub overflow_add-at : goal.overflow_add-at
-overflow_add-at c =
-    omega (arith, c.loop-i-test.true, c.loop-i.invariant, c.requires, c.ranges)
-
-pub overflow_add-to : goal.overflow_add-to
-overflow_add-to c =
-    omega (arith, c.loop-i-test.true, c.loop-i.invariant, c.requires, c.ranges)
-
-pub loop-i-smaller : goal.loop-i-smaller
-loop-i-smaller c =
-    omega (arith, c.loop-i-test.true)
+    let n = length c.args.out.now - (c.loop-i.i + 1) in
+    let e : 2 * length c.args.out.now ≡ 2 * c.loop-i.i + suc (suc (2 * n)) = omega arith in
+    rw take_rest (digits_two (2 * n) _ (digits-later (2 * c.loop-i.i) _ c.args.rest.now (rw e at c.requires))).0
 
 pub loop-i-preserved : goal.loop-i-preserved
 loop-i-preserved c =
-    let e : 2 * (c.args.count - c.loop-i.i) ≡ suc (suc (2 * (c.args.count - (c.loop-i.i + 1)))) = omega (arith, c.loop-i-test.true) in
-    let f : c.args.count - c.loop-i.i ≡ suc (c.args.count - (c.loop-i.i + 1)) = omega (arith, c.loop-i-test.true) in (
-      omega (arith, c.loop-i-test.true),
-      omega (arith, c.loop-i.invariant),
-      omega (arith, c.loop-i.invariant),
-      simp length-set c.loop-i.invariant.3,
-      rw (drop-drop 2) at (digits_two _ _ (rw e at c.loop-i.invariant.4)).1,
-      c.loop-i.invariant.5 ∙ rw f (bytes-put _ c.loop-i.at c.args.text.now c.loop-i.out c.loop-i.to _ c.byte.ensures),
-    )
+    let n = length c.args.out.now - (c.loop-i.i + 1) in
+    let e : length c.args.out.now - c.loop-i.i ≡ suc n = omega arith in
+    c.loop-i.invariant ∙ rw e (bytes-put n c.loop-i.i c.args.rest.now c.loop-i.out _ (rw take_rest at c.byte.ensures))
 
 pub returns : goal.returns
 returns c =
-    let z : c.args.count - c.loop-i.i ≡ 0 = omega (arith, c.loop-i-test.false) in
-    sym (c.loop-i.invariant.5 ∙ rw (z, bytes-none))
+    let n = length c.args.out.now in
+    let z : n - c.loop-i.i ≡ 0 = omega arith in
+    sym (sym (sets_whole (bytes n c.args.rest.now) c.args.out.now (bytes-length n c.args.rest.now)) ∙ c.loop-i.invariant ∙ rw (z, bytes-none))

@@ -1,60 +1,38 @@
--- `text::layout::scan` meets its contract: each return has the tests that led there, and the laws of the text. Assumes nothing.
-use native.Mathlib.Omega.{arith}
-use mathlib.Core.Path.{◌∙◌}
-use lib.ListN.{drop, length-drop}
-use Rattle.form.proofs.FormLaws.{most-place}
-use Rattle.text.specs.Reading.{Scanned}
+-- Each return has the tests that led there, and the laws of the text. Assumes nothing.
+use Rattle.std.proofs.Common.{◌<◌, ◌≤◌, length, refl, arith}
+use Rattle.std.proofs.lemmas.Bool.Decides.{nat_tests}
+use Rattle.std.proofs.lemmas.List.{take_rest}
 use Rattle.text.proofs.LineLaws.{ending-within}
-use Rattle.text.proofs.ReadingLaws.{few_bytes, long-sheet, no_empty_line, long-script, bad_line, parts}
+use Rattle.text.proofs.ReadingLaws.{long-sheet, no_empty_line, long-script, bad_line, parts}
 use Rattle.text.proofs.layout.scan.Goals as goal
 
-pub overflow_add-past : goal.overflow_add-past
-overflow_add-past c =
-    omega (arith, c.most_frames-past.ensures, most-place c.args.form)
+pub returns-then-most-sheet : goal.returns-then-most-sheet
+returns-then-most-sheet c =
+    long-sheet c.args.form c.args.text.now _ _ c.frame_bytes.ensures c.most_frames-most.ensures c.lines-sheet.result c.lines-sheet.ensures c.if-most-sheet.true
 
-pub lines-first-requires : goal.lines-first-requires
-lines-first-requires c =
-    (omega arith, omega (arith, c.frame_bytes.ensures, few_bytes c.args.form))
+pub returns-in_default : goal.returns-in_default
+returns-in_default c =
+    let e = no_empty_line c.args.form c.args.text.now _ _ c.frame_bytes.ensures c.most_frames-most.ensures c.lines-sheet.result c.lines-sheet.ensures c.if-most-sheet.false 0 c.in_default.ensures.size refl in cc
 
-pub returns-then-past-first : goal.returns-then-past-first
-unfolding Scanned
-returns-then-past-first c =
-    long-sheet c.args.form c.args.text.now _ _ c.frame_bytes.ensures c.most_frames-past.ensures c.lines-first.result c.lines-first.ensures (omega (arith, c.if-past-first.true))
+pub slice_bounds-behind-count : goal.slice_bounds-behind-count
+slice_bounds-behind-count c = omega (arith, c.in-Some.ensures.size, ending-within c.lines-sheet.result.rest.now)
 
-pub sheet_fault-requires : goal.sheet_fault-requires
-sheet_fault-requires c =
-    c.lines-first.ensures.within
+pub slice_bounds-behind-start : goal.slice_bounds-behind-start
+slice_bounds-behind-start c = omega (arith, c.in-Some.ensures.size, ending-within c.lines-sheet.result.rest.now)
 
-pub returns-then-gap-eq0 : goal.returns-then-gap-eq0
-unfolding Scanned
-returns-then-gap-eq0 c =
-    no_empty_line c.args.form c.args.text.now _ _ c.frame_bytes.ensures c.most_frames-past.ensures c.lines-first.result c.lines-first.ensures (omega (arith, c.if-past-first.false))
-    _ c.ending-gap.ensures c.if-gap-eq0.true
-    ∙ rw c.sheet_fault.ensures
+pub returns-then-script-gt-SCRIPT_FRAMES : goal.returns-then-script-gt-SCRIPT_FRAMES
+returns-then-script-gt-SCRIPT_FRAMES c =
+    long-script c.args.form c.args.text.now _ _ c.frame_bytes.ensures c.most_frames-most.ensures c.lines-sheet.result c.lines-sheet.ensures c.if-most-sheet.false
+    _ c.in-Some.ensures.size c.in-Some.ensures.some _ (take_rest c.lines-sheet.result.rest.now c.in-Some.gap) c.lines-script.result c.lines-script.ensures c.if-script-gt-SCRIPT_FRAMES.true
 
-pub overflow_add-start : goal.overflow_add-start
-overflow_add-start c =
-    omega (arith, c.lines-first.ensures.within, c.ending-gap.ensures, ending-within (drop c.lines-first.result.end c.args.text.now), length-drop c.lines-first.result.end c.args.text.now)
-
-pub lines-second-requires : goal.lines-second-requires
-lines-second-requires c =
-    (omega (arith, c.lines-first.ensures.within, c.ending-gap.ensures, ending-within (drop c.lines-first.result.end c.args.text.now), length-drop c.lines-first.result.end c.args.text.now), omega arith)
-
-pub returns-then-second-gt-SCRIPT_FRAMES : goal.returns-then-second-gt-SCRIPT_FRAMES
-unfolding Scanned
-returns-then-second-gt-SCRIPT_FRAMES c =
-    long-script c.args.form c.args.text.now _ _ c.frame_bytes.ensures c.most_frames-past.ensures c.lines-first.result c.lines-first.ensures (omega (arith, c.if-past-first.false))
-    _ c.ending-gap.ensures c.if-gap-eq0.false c.lines-second.result c.lines-second.ensures c.if-second-gt-SCRIPT_FRAMES.true
-
-pub returns-then-second-text : goal.returns-then-second-text
-unfolding Scanned
-returns-then-second-text c =
-    bad_line c.args.form c.args.text.now _ _ c.frame_bytes.ensures c.most_frames-past.ensures c.lines-first.result c.lines-first.ensures (omega (arith, c.if-past-first.false))
-    _ c.ending-gap.ensures c.if-gap-eq0.false c.lines-second.result c.lines-second.ensures c.if-second-gt-SCRIPT_FRAMES.false c.if-second-text.true
+pub returns-then-not-is_empty : goal.returns-then-not-is_empty
+returns-then-not-is_empty c =
+    let h : 0 < length c.lines-script.result.rest.now = grind (arith, nat_tests) in
+    bad_line c.args.form c.args.text.now _ _ c.frame_bytes.ensures c.most_frames-most.ensures c.lines-sheet.result c.lines-sheet.ensures c.if-most-sheet.false
+    _ c.in-Some.ensures.size c.in-Some.ensures.some _ (take_rest c.lines-sheet.result.rest.now c.in-Some.gap) c.lines-script.result c.lines-script.ensures c.if-script-gt-SCRIPT_FRAMES.false h
 
 pub returns : goal.returns
-unfolding Scanned
 returns c =
-    parts c.args.form c.args.text.now _ _ c.frame_bytes.ensures c.most_frames-past.ensures c.lines-first.result c.lines-first.ensures (omega (arith, c.if-past-first.false))
-    _ c.ending-gap.ensures c.if-gap-eq0.false c.lines-second.result c.lines-second.ensures c.if-second-gt-SCRIPT_FRAMES.false c.if-second-text.false
-    (omega (arith, c.lines-first.ensures.within, c.ending-gap.ensures, ending-within (drop c.lines-first.result.end c.args.text.now), length-drop c.lines-first.result.end c.args.text.now))
+    let h : length c.lines-script.result.rest.now ≤ 0 = grind (arith, nat_tests) in
+    parts c.args.form c.args.text.now _ _ c.frame_bytes.ensures c.most_frames-most.ensures c.lines-sheet.result c.lines-sheet.ensures c.if-most-sheet.false
+    _ c.in-Some.ensures.size c.in-Some.ensures.some _ (take_rest c.lines-sheet.result.rest.now c.in-Some.gap) c.lines-script.result c.lines-script.ensures c.if-script-gt-SCRIPT_FRAMES.false h

@@ -1,8 +1,0 @@
--- `cube::wide::unfixed_agrees` meets its contract: the constant's two words are 0 (`agree-none`). Assumes nothing.
-use mathlib.Core.Path.{◌∙◌}
-use Rattle.words.proofs.Mask.{agree-none}
-use Rattle.cube.proofs.wide.unfixed_agrees.Goals as goal
-
-pub returns : goal.returns
-returns c =
-    c.agrees.ensures ∙ agree-none _

@@ -1,9 +1,0 @@
--- `net::links::with_users` meets its contract. Assumes nothing.
-use native.Mathlib.Omega.{arith}
-use Rattle.net.specs.Link.{low_part}
-use Rattle.net.proofs.links.with_users.Goals as goal
-
-pub returns : goal.returns
-unfolding low_part
-returns c =
-    omega arith
