@@ -20,11 +20,10 @@ use Rattle.dimacs.specs.Shape.{number_of, variable_of, is_line, in_range}
 use Rattle.dimacs.proofs.ShapeLaws.{literal-variable}
 use Rattle.dimacs.specs.Row.{header, block_row, clause_row, row_after, mentions, proper_atoms, code_of_field, codes_from, with_atom, words_from}
 use Rattle.dimacs.specs.declared.token.Token.{Token}
-use Rattle.dimacs.specs.declared.atoms.Row.{Row}
 
 -- ---- a literal's field, and the field that begins a block
 
-block-row : (row : Row) (d : Bool) → row_after row (block_field d) ≡ block_row
+block-row : (row : ℕ) (d : Bool) → row_after row (block_field d) ≡ block_row
 unfolding row_after block_field
 block-row row true = refl
 block-row row false = refl
@@ -34,7 +33,7 @@ unfolding variable_of block_field
 block_variable true = refl
 block_variable false = refl
 
-literal_row : (row : Row) (l : Literal) → row_after row (literal_field l) ≡ row
+literal_row : (row : ℕ) (l : Literal) → row_after row (literal_field l) ≡ row
 unfolding row_after literal_field
 literal_row row l = by_bool l.negative (λ e. rw e refl) (λ e. rw e refl)
 

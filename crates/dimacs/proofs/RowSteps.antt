@@ -1,138 +1,94 @@
 -- The definitions of Row.antt field by field, as the code takes them, and stores one after the other. Assumes nothing.
 use Rattle.std.specs.Prelude.{ℕ, ◌+◌, ◌-◌, ◌^◌, ◌≤◌, ◌<◌, Bool, true, false, not, List, [], ◌∷◌, ◌≡◌, refl, leb, ltb, length, set}
-use Rattle.std.proofs.Common.{None, Some, add-one, arith, sym, ap, ◌∙◌}
+use Rattle.std.proofs.Common.{None, Some, zero-add, add-one, arith, sym, ap, ◌∙◌}
 use borrow.Author.Tests.{eq-eqb, ne_eqb, lt-ltb, ltb-true, leb-true, not-true, not-false}
 use Rattle.std.specs.Int.Bits.{bit_or}
 use Rattle.std.proofs.lemmas.List.Edits.{sets}
+use Rattle.std.proofs.Math.Seq.{length-sets}
 use Rattle.words.proofs.Logic.{and_both}
 use Rattle.dimacs.specs.Shape.{number_of, variable_of, is_line, in_range}
-use Rattle.dimacs.specs.Row.{block_row, clause_row, same_row, row_after, mentions, proper_atom, proper_atoms, code_of_field, codes_from, with_atom, words_from}
+use Rattle.dimacs.specs.Row.{block_row, clause_row, row_after, mentions, proper_atom, proper_atoms, code_of_field, codes_from, with_atom, words_from}
 use Rattle.dimacs.specs.declared.token.Token.{Token}
-use Rattle.dimacs.specs.contracts.atoms.Row.{the_type}
-use denote.Enum.Bare.{sameb}
-use Rattle.dimacs.specs.declared.atoms.Row.{Row}
-use Rattle.dimacs.specs.declared.atoms.Row.TheVariants.{Header, Block, Clause}
 use Rattle.dimacs.specs.RowSteps.{Storing}
-
--- ---- rows
-
--- what the code's test of two rows says
-pub same-row : (a b : Row) → true ≡ sameb the_type a b → a ≡ b
-same-row Header Header e = refl
-same-row Header Block e = cc
-same-row Header Clause e = cc
-same-row Block Header e = cc
-same-row Block Block e = refl
-same-row Block Clause e = cc
-same-row Clause Header e = cc
-same-row Clause Block e = cc
-same-row Clause Clause e = refl
-
-pub other-row : (a b : Row) → false ≡ sameb the_type a b → a ≡ b → ⊥
-other-row Header Header e q = cc
-other-row Header Block e q = cc
-other-row Header Clause e q = cc
-other-row Block Header e q = cc
-other-row Block Block e q = cc
-other-row Block Clause e q = cc
-other-row Clause Header e q = cc
-other-row Clause Block e q = cc
-other-row Clause Clause e q = cc
-
-row_same : (a b : Row) → a ≡ b → same_row a b ≡ true
-row_same Header b e = rw (← e)
-row_same Block b e = rw (← e)
-row_same Clause b e = rw (← e)
-
-row_other : (a b : Row) → (a ≡ b → ⊥) → same_row a b ≡ false
-row_other Header Header h = absurd (h refl)
-row_other Header Block h = refl
-row_other Header Clause h = refl
-row_other Block Header h = refl
-row_other Block Block h = absurd (h refl)
-row_other Block Clause h = refl
-row_other Clause Header h = refl
-row_other Clause Block h = refl
-row_other Clause Clause h = absurd (h refl)
 
 -- ---- no field is left
 
-pub mentions-none : (kind : Row) (v : ℕ) (row : Row) → mentions kind v row [] ≡ false
+pub mentions-none : (kind v row : ℕ) → mentions kind v row [] ≡ false
 unfolding mentions
 mentions-none kind v row = refl
 
-pub proper-none : (row : Row) → proper_atoms row [] ≡ true
+pub proper-none : (row : ℕ) → proper_atoms row [] ≡ true
 unfolding proper_atoms
 proper-none row = refl
 
-pub codes_none : (row : Row) → codes_from row [] ≡ []
+pub codes_none : (row : ℕ) → codes_from row [] ≡ []
 unfolding codes_from
 codes_none row = refl
 
-pub words_none : (row : Row) (word : ℕ) → words_from row word [] ≡ []
+pub words_none : (row word : ℕ) → words_from row word [] ≡ []
 unfolding words_from
 words_none row word = refl
 
 -- ---- a field t, with the row behind it
 
-pub mentions-here : {kind row : Row} {v x : ℕ} {t : Token} {fs ts : List Token} → fs ≡ t ∷ ts → row ≡ kind → x ≡ variable_of t → x ≡ v → mentions kind v row fs ≡ true
+pub mentions-here : {kind v row x : ℕ} {t : Token} {fs ts : List Token} → fs ≡ t ∷ ts → row ≡ kind → x ≡ variable_of t → x ≡ v → mentions kind v row fs ≡ true
 unfolding mentions
-mentions-here {kind} {row} {v} {x} s here x-is h = rw (s, row_same row kind here, ← x-is, eq-eqb x v h)
+mentions-here {kind} {v} {row} {x} s here x-is h = rw (s, eq-eqb row kind here, ← x-is, eq-eqb x v h)
 
-module _ {row row' : Row} {t : Token} {fs ts : List Token} (s : fs ≡ t ∷ ts) (r : row' ≡ row_after row t) where
-  module _ {kind : Row} (v : ℕ) where
+module _ {row row' : ℕ} {t : Token} {fs ts : List Token} (s : fs ≡ t ∷ ts) (r : row' ≡ row_after row t) where
+  module _ {kind : ℕ} (v : ℕ) where
     pub mentions-other_row : (row ≡ kind → ⊥) → mentions kind v row fs ≡ mentions kind v row' ts
     unfolding mentions
-    mentions-other_row h = rw (s, r, row_other row kind h)
+    mentions-other_row h = rw (s, r, ne_eqb row kind h)
 
     pub mentions-other-variable : row ≡ kind → {x : ℕ} → x ≡ variable_of t → (x ≡ v → ⊥) → mentions kind v row fs ≡ mentions kind v row' ts
     unfolding mentions
-    mentions-other-variable here {x} x-is h = rw (s, r, row_same row kind here, ← x-is, ne_eqb x v h)
+    mentions-other-variable here {x} x-is h = rw (s, r, eq-eqb row kind here, ← x-is, ne_eqb x v h)
 
   pub proper-other_row : (row ≡ block_row → ⊥) → proper_atoms row fs ≡ proper_atoms row' ts
   unfolding proper_atoms
-  proper-other_row h = rw (s, r, row_other row block_row h)
+  proper-other_row h = rw (s, r, ne_eqb row block_row h)
 
   module _ (here : row ≡ block_row) {x : ℕ} (x-is : x ≡ number_of t) where
     pub proper-zero : x ≡ 0 → proper_atoms row fs ≡ proper_atoms row' ts
     unfolding proper_atoms
-    proper-zero h = rw (s, r, row_same row block_row here, ← x-is, h)
+    proper-zero h = rw (s, r, eq-eqb row block_row here, ← x-is, h)
 
     module _ (h : x ≡ 0 → ⊥) {b : Bool} (b-is : b ≡ proper_atom x row' ts) where
       pub proper-next : not b ≡ false → proper_atoms row fs ≡ proper_atoms row' ts
       unfolding proper_atoms
-      proper-next e = rw (s, ← r, row_same row block_row here, ← x-is, lt-ltb 0 x (omega (arith, h)), ← b-is, not-false b e)
+      proper-next e = rw (s, ← r, eq-eqb row block_row here, ← x-is, lt-ltb 0 x (omega (arith, h)), ← b-is, not-false b e)
 
       pub proper-fails : not b ≡ true → proper_atoms row fs ≡ false
       unfolding proper_atoms
-      proper-fails e = rw (s, ← r, row_same row block_row here, ← x-is, lt-ltb 0 x (omega (arith, h)), ← b-is, not-true b e)
+      proper-fails e = rw (s, ← r, eq-eqb row block_row here, ← x-is, lt-ltb 0 x (omega (arith, h)), ← b-is, not-true b e)
 
   pub codes_other_row : (row ≡ clause_row → ⊥) → codes_from row fs ≡ codes_from row' ts
   unfolding codes_from
-  codes_other_row h = rw (s, r, row_other row clause_row h)
+  codes_other_row h = rw (s, r, ne_eqb row clause_row h)
 
   module _ (here : row ≡ clause_row) where
     pub codes_same : code_of_field t ≡ None → codes_from row fs ≡ codes_from row' ts
     unfolding codes_from
-    codes_same e = rw (s, r, row_same row clause_row here, e)
+    codes_same e = rw (s, r, eq-eqb row clause_row here, e)
 
     pub codes_next : {code : ℕ} → code_of_field t ≡ Some code → codes_from row fs ≡ code ∷ codes_from row' ts
     unfolding codes_from
-    codes_next e = rw (s, r, row_same row clause_row here, e)
+    codes_next e = rw (s, r, eq-eqb row clause_row here, e)
 
   module _ (word : ℕ) {word' : ℕ} where
     pub words_other_row : (row ≡ block_row → ⊥) → word' ≡ word → words_from row word fs ≡ words_from row' word' ts
     unfolding words_from
-    words_other_row h e = rw (s, r, row_other row block_row h, e)
+    words_other_row h e = rw (s, r, ne_eqb row block_row h, e)
 
     module _ (here : row ≡ block_row) where
       pub words_atom : {n with : ℕ} → is_line t ≡ false → n ≡ number_of t → with ≡ with_atom word n → word' ≡ with → words_from row word fs ≡ words_from row' word' ts
       unfolding words_from
-      words_atom h n-is k e = rw (s, r, row_same row block_row here, h, ← n-is, e, k)
+      words_atom h n-is k e = rw (s, r, eq-eqb row block_row here, h, ← n-is, e, k)
 
       pub words_next : is_line t ≡ true → word' ≡ 0 → words_from row word fs ≡ word ∷ words_from row' word' ts
       unfolding words_from
-      words_next h e = rw (s, r, row_same row block_row here, h, e)
+      words_next h e = rw (s, r, eq-eqb row block_row here, h, e)
 
 -- ---- numbers of variables, with what a test of their range said
 
@@ -155,6 +111,9 @@ module _ (n : ℕ) {b : Bool} (b-is : b ≡ in_range 32 n) where
     unfolding with_atom
     atom_none h = rw (out_of_range h)
 
+pub storing_start : (l vs : List ℕ) → Storing l vs l 0 vs
+storing_start l vs = record { gives = refl; counts = sym (zero-add (length vs)) }
+
 module _ {l₀ vs l : List ℕ} {n : ℕ} {left : List ℕ} (s : Storing l₀ vs l n left) where
   counted : {rest : List ℕ} → left ≡ rest → length vs ≡ n + length rest
   counted e = s.counts ∙ ap (λ (ws : List ℕ). n + length ws) e
@@ -167,3 +126,6 @@ module _ {l₀ vs l : List ℕ} {n : ℕ} {left : List ℕ} (s : Storing l₀ vs
 
   pub storing-end : left ≡ [] → (n ≡ length vs) × (l ≡ sets l₀ 0 vs)
   storing-end e = (omega (arith, counted e), sym (s.gives ∙ ap (sets l n) e))
+
+  pub storing_length : length l ≡ length l₀
+  storing_length = sym (length-sets l n left) ∙ sym (ap length s.gives) ∙ length-sets l₀ 0 vs

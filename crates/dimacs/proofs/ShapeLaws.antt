@@ -12,14 +12,12 @@ use Rattle.words.proofs.Logic.{by_bool, clash, and_both, and_intro}
 use Rattle.prenex.specs.Question.{Literal, Block, Clause, Question, Every, every-none, every_one, SomeBelow, Alternating, no_block, innermost, outer, Proper}
 use Rattle.prenex.proofs.CodeLaws.{alternating-inside}
 use Rattle.dimacs.specs.Page.{atom_fields, literal_field, clause_fields, clauses_fields, block_field, blocks_fields, page}
-use Rattle.dimacs.specs.Shape.{number_of, variable_of, is_zero, is_line, is_problem, is_cnf, begun, same_kind, in_range, broken, block_start, clause_start, row_of, row_start, step_in, step, run, start, finished, whole}
+use Rattle.dimacs.specs.Shape.{number_of, variable_of, is_zero, is_line, is_problem, is_cnf, begun, in_range, broken, block_start, clause_start, row_of, row_start, step_in, step, run, start, finished, whole}
 use Rattle.dimacs.specs.declared.token.Token.{Token}
 use Rattle.dimacs.specs.declared.token.Token.TheVariants.{Line, Problem, Format, Exists, Forall, Number, Negative, Other}
 use Rattle.dimacs.specs.declared.shape.Phase.{Phase}
 use Rattle.dimacs.specs.declared.shape.Phase.TheVariants.{AtProblem, AtFormat, AtVariables, AtCount, AtHeaderEnd, AtRow, AtFirstAtom, AtAtom, AtBlockEnd, AtClause, AtLiteral, AtClauseEnd, Broken}
 use Rattle.dimacs.specs.declared.shape.State.{State}
-use Rattle.dimacs.specs.declared.shape.Quantifier.{Quantifier}
-use Rattle.dimacs.specs.declared.shape.Quantifier.TheVariants as Kind
 use Rattle.dimacs.specs.ShapeLaws.{Shaped}
 
 pub proper_shaped : {q : Question} → Proper q → Shaped q
@@ -38,49 +36,49 @@ abbrev BlocksBelow : ℕ → List Block → Type 0
 BlocksBelow v bs = Every (λ (b : Block). SomeBelow (λ (x : ℕ). x) v b.atoms) bs
 
 -- a state, its fields in a row
-abbrev at : Phase → ℕ → ℕ → Option Quantifier → State
+abbrev at : Phase → ℕ → ℕ → ℕ → State
 at p v n d = record { phase = p; variables = v; left = n; last = d }
 
 -- a block's kind as the machine has it
-abbrev kind : Bool → Quantifier
-kind exists = cond exists Kind.Exists Kind.Forall
+abbrev kind : Bool → ℕ
+kind exists = cond exists 1 2
 
-abbrev kind_of : Block → Quantifier
+abbrev kind_of : Block → ℕ
 kind_of b = kind b.exists
 
--- what may follow a block of the kind d (none: before the first): a block of another kind, or the clauses if it was no forall
-data Follows (d : Option Quantifier) : List Block → Type 0 where
-  none-follows : same_kind d Kind.Forall ≡ false → Follows d []
-  one_follows : {c : Block} {bs : List Block} → same_kind d (kind_of c) ≡ false → Follows d (c ∷ bs)
+-- what may follow a block of the kind d (0: before the first): a block of another kind, or the clauses if it was no forall
+data Follows (d : ℕ) : List Block → Type 0 where
+  none-follows : eqb d 2 ≡ false → Follows d []
+  one_follows : {c : Block} {bs : List Block} → eqb d (kind_of c) ≡ false → Follows d (c ∷ bs)
 
-some-kind : (d : Bool) → same_kind None (kind d) ≡ false
+some-kind : (d : Bool) → eqb 0 (kind d) ≡ false
 some-kind true = refl
 some-kind false = refl
 
 -- blocks alternate if each may follow the one before
-alternating-follows : {b : Block} {bs : List Block} → Alternating (b ∷ bs) → Follows (Some (kind_of b)) bs
+alternating-follows : {b : Block} {bs : List Block} → Alternating (b ∷ bs) → Follows (kind_of b) bs
 alternating-follows (innermost e) = none-follows (rw e refl)
 alternating-follows (outer {b} {c} {bs} e a) = one_follows (other c.exists b.exists e)
   where
-    other : (y x : Bool) → x ≡ not y → same_kind (Some (kind x)) (kind y) ≡ false
+    other : (y x : Bool) → x ≡ not y → eqb (kind x) (kind y) ≡ false
     other true x e = rw e refl
     other false x e = rw e refl
 
 -- before the first block
-follows-none : {bs : List Block} → Alternating bs → Follows None bs
+follows-none : {bs : List Block} → Alternating bs → Follows 0 bs
 follows-none no_block = none-follows refl
 follows-none (innermost {b} e) = one_follows (some-kind b.exists)
 follows-none (outer {b} e a) = one_follows (some-kind b.exists)
 
-follows-alternating : {b : Block} {bs : List Block} → Follows (Some (kind_of b)) bs → Alternating bs → Alternating (b ∷ bs)
+follows-alternating : {b : Block} {bs : List Block} → Follows (kind_of b) bs → Alternating bs → Alternating (b ∷ bs)
 follows-alternating {b} (none-follows e) a = innermost (last b.exists e)
   where
-    last : (x : Bool) → same_kind (Some (kind x)) Kind.Forall ≡ false → x ≡ true
+    last : (x : Bool) → eqb (kind x) 2 ≡ false → x ≡ true
     last true e = refl
     last false e = sym e
 follows-alternating {b} (one_follows {c} e) a = outer (other b.exists c.exists e) a
   where
-    other : (x y : Bool) → same_kind (Some (kind x)) (kind y) ≡ false → x ≡ not y
+    other : (x y : Bool) → eqb (kind x) (kind y) ≡ false → x ≡ not y
     other true true e = e
     other true false e = refl
     other false true e = refl
@@ -121,27 +119,16 @@ cnf_is (Number n) e = cc
 cnf_is (Negative n) e = cc
 cnf_is Other e = cc
 
-exists_is : (t : Token) → begun t ≡ Some Kind.Exists → t ≡ Exists
-unfolding begun
-exists_is Line e = cc
-exists_is Problem e = cc
-exists_is Format e = cc
-exists_is Exists e = refl
-exists_is Forall e = cc
-exists_is (Number n) e = cc
-exists_is (Negative n) e = cc
-exists_is Other e = cc
-
-forall_is : (t : Token) → begun t ≡ Some Kind.Forall → t ≡ Forall
-unfolding begun
-forall_is Line e = cc
-forall_is Problem e = cc
-forall_is Format e = cc
-forall_is Exists e = cc
-forall_is Forall e = refl
-forall_is (Number n) e = cc
-forall_is (Negative n) e = cc
-forall_is Other e = cc
+begun-kind : (t : Token) (k : ℕ) → begun t ≡ Some k → (b : Bool) × (t ≡ block_field b) × (k ≡ kind b)
+unfolding begun block_field
+begun-kind Line k e = cc
+begun-kind Problem k e = cc
+begun-kind Format k e = cc
+begun-kind Exists k e = (true, refl, cc)
+begun-kind Forall k e = (false, refl, cc)
+begun-kind (Number n) k e = cc
+begun-kind (Negative n) k e = cc
+begun-kind Other k e = cc
 
 zero_is : (t : Token) → is_zero t ≡ true → t ≡ Number 0
 unfolding is_zero
@@ -203,12 +190,12 @@ literal-begins : (l : Literal) → begun (literal_field l) ≡ None
 unfolding begun literal_field
 literal-begins l = by_bool l.negative (λ e. rw e refl) (λ e. rw e refl)
 
-module _ (v n : ℕ) (d : Option Quantifier) where
+module _ (v n d : ℕ) where
   first-literal : (l : Literal) → l.variable < v → 1 ≤ n → step (at AtClause v n d) (literal_field l) ≡ at AtLiteral v n d
   unfolding step step_in
   first-literal l k h = rw (lt-ltb 0 n h, literal-variable l, range_in v l.variable k) refl
 
-  row_literal : (l : Literal) → l.variable < v → 1 ≤ n → same_kind d Kind.Forall ≡ false → step (at AtRow v n d) (literal_field l) ≡ at AtLiteral v n d
+  row_literal : (l : Literal) → l.variable < v → 1 ≤ n → eqb d 2 ≡ false → step (at AtRow v n d) (literal_field l) ≡ at AtLiteral v n d
   unfolding step step_in
   row_literal l k h e = rw (literal-begins l, e, lt-ltb 0 n h, literal-variable l, range_in v l.variable k) refl
 
@@ -228,7 +215,7 @@ module _ (v n : ℕ) (d : Option Quantifier) where
   unfolding step step_in number_of is_zero
   next_atom x k = rw (some_number (suc x) (omega arith), range_in v x k) refl
 
-  kind_starts : (b : Bool) → same_kind d (kind b) ≡ false → step (at AtRow v n d) (block_field b) ≡ at AtFirstAtom v n (Some (kind b))
+  kind_starts : (b : Bool) → eqb d (kind b) ≡ false → step (at AtRow v n d) (block_field b) ≡ at AtFirstAtom v n (kind b)
   unfolding step step_in block_field begun
   kind_starts true e = rw e refl
   kind_starts false e = rw e refl
@@ -241,7 +228,7 @@ module _ (v n : ℕ) (d : Option Quantifier) where
   unfolding step step_in number_of
   count-told k h = rw (some_number k h) refl
 
-module _ (v n : ℕ) (d : Option Quantifier) where
+module _ (v n d : ℕ) where
   literals-run : (c : Clause) (rest : List Token) → LiteralsBelow v c → 1 ≤ n
       → run (at AtLiteral v n d) (clause_fields c rest) ≡ run (at AtClause v (n - 1) d) rest
   unfolding run step step_in clause_fields is_zero
@@ -271,7 +258,7 @@ module _ (v n : ℕ) (d : Option Quantifier) where
   block_run (x ∷ xs) rest i (every_one k ks) = ap (λ (s : State). run s (atom_fields xs rest)) (first_atom v n d x k) ∙ atoms-run xs rest ks
 
 module _ (v : ℕ) where
-  clauses-run : (n : ℕ) (d : Option Quantifier) (cs : List Clause) → length cs ≡ n → ClausesBelow v cs → run (at AtClause v n d) (clauses_fields cs) ≡ at AtClause v 0 d
+  clauses-run : (n d : ℕ) (cs : List Clause) → length cs ≡ n → ClausesBelow v cs → run (at AtClause v n d) (clauses_fields cs) ≡ at AtClause v 0 d
   unfolding run clauses_fields
   clauses-run n d [] e every-none = ap (λ (k : ℕ). at AtClause v k d) (sym e)
   clauses-run n d (c ∷ cs) e (every_one k ks) =
@@ -279,7 +266,7 @@ module _ (v : ℕ) where
       ∙ clauses-run (n - 1) d cs (omega (arith, e)) ks
 
   -- the first clause, where a block could be
-  matrix-run : (n : ℕ) (d : Option Quantifier) (cs : List Clause) → same_kind d Kind.Forall ≡ false → 1 ≤ n → length cs ≡ n → ClausesBelow v cs
+  matrix-run : (n d : ℕ) (cs : List Clause) → eqb d 2 ≡ false → 1 ≤ n → length cs ≡ n → ClausesBelow v cs
       → run (at AtRow v n d) (clauses_fields cs) ≡ at AtClause v 0 d
   unfolding clauses_fields
   matrix-run n d [] f h e every-none = absurd (omega (arith, h, e))
@@ -287,16 +274,16 @@ module _ (v : ℕ) where
       clause_run v n d (at AtRow v n d) (λ l i. row_literal v n d l i h f) c (clauses_fields cs) k.some k.below h
       ∙ clauses-run (n - 1) d cs (omega (arith, e)) ks
 
-  blocks-run : (n : ℕ) (d : Option Quantifier) (bs : List Block) (cs : List Clause) → Follows d bs → Alternating bs → BlocksBelow v bs → 1 ≤ n → length cs ≡ n → ClausesBelow v cs
-      → (k : Option Quantifier) × (run (at AtRow v n d) (blocks_fields bs (clauses_fields cs)) ≡ at AtClause v 0 k)
+  blocks-run : (n d : ℕ) (bs : List Block) (cs : List Clause) → Follows d bs → Alternating bs → BlocksBelow v bs → 1 ≤ n → length cs ≡ n → ClausesBelow v cs
+      → (k : ℕ) × (run (at AtRow v n d) (blocks_fields bs (clauses_fields cs)) ≡ at AtClause v 0 k)
   unfolding run blocks_fields
   blocks-run n d [] cs (none-follows f) a every-none h e k = (d, matrix-run n d cs f h e k)
   blocks-run n d (b ∷ bs) cs (one_follows f) a (every_one i is) h e k =
       let rest = blocks_fields bs (clauses_fields cs) in
-      let r = blocks-run n (Some (kind_of b)) bs cs (alternating-follows a) (alternating-inside a) is h e k in (
+      let r = blocks-run n (kind_of b) bs cs (alternating-follows a) (alternating-inside a) is h e k in (
         r.0,
         ap (λ (s : State). run s (atom_fields b.atoms rest)) (kind_starts v n d b.exists f)
-            ∙ block_run v n (Some (kind_of b)) b.atoms rest i.some i.below
+            ∙ block_run v n (kind_of b) b.atoms rest i.some i.below
             ∙ r.1,
       )
 
@@ -309,16 +296,16 @@ some-variable {v} (c ∷ cs) h (every_one k ks) = literal c k.some k.below
     literal [] i every-none = absurd (omega arith)
     literal (l ∷ c) i (every_one b bs) = omega (arith, b)
 
-page-run : (q : Question) → Shaped q → (k : Option Quantifier) × (run start (page q) ≡ at AtClause q.variables 0 k)
+page-run : (q : Question) → Shaped q → (k : ℕ) × (run start (page q) ≡ at AtClause q.variables 0 k)
 unfolding run step step_in is_line is_problem is_cnf page
 page-run q s =
     let v = q.variables in
     let n = length q.clauses in
     let rest = blocks_fields q.blocks (clauses_fields q.clauses) in
-    let r = blocks-run v n None q.blocks q.clauses (follows-none s.alternating) s.alternating s.blocks-below s.some-clause refl s.clauses-below in (
+    let r = blocks-run v n 0 q.blocks q.clauses (follows-none s.alternating) s.alternating s.blocks-below s.some-clause refl s.clauses-below in (
       r.0,
-      ap (λ (a : State). run a (Number n ∷ Line ∷ rest)) (variables-told 0 0 None v (some-variable q.clauses s.some-clause s.clauses-below))
-          ∙ ap (λ (a : State). run a (Line ∷ rest)) (count-told v 0 None n s.some-clause)
+      ap (λ (a : State). run a (Number n ∷ Line ∷ rest)) (variables-told 0 0 0 v (some-variable q.clauses s.some-clause s.clauses-below))
+          ∙ ap (λ (a : State). run a (Line ∷ rest)) (count-told v 0 0 n s.some-clause)
           ∙ r.1,
     )
 
@@ -371,7 +358,7 @@ record Literals (v n : ℕ) (ts : List Token) : Type 0 where
   fields : ts ≡ clause_fields literals rest
   behind : Clauses v (n - 1) rest
 
-record Rows (v n : ℕ) (d : Option Quantifier) (ts : List Token) : Type 0 where
+record Rows (v n d : ℕ) (ts : List Token) : Type 0 where
   blocks : List Block
   rest : List Token
   some : 1 ≤ n
@@ -382,7 +369,7 @@ record Rows (v n : ℕ) (d : Option Quantifier) (ts : List Token) : Type 0 where
   behind : Clauses v n rest
 
 -- the atoms left of a block
-record Atoms (v n : ℕ) (d : Option Quantifier) (ts : List Token) : Type 0 where
+record Atoms (v n d : ℕ) (ts : List Token) : Type 0 where
   atoms : List ℕ
   rest : List Token
   below : AtomsBelow v atoms
@@ -393,16 +380,16 @@ record Atoms (v n : ℕ) (d : Option Quantifier) (ts : List Token) : Type 0 wher
 abbrev SomeLiterals : ℕ → ℕ → List Token → Type 0
 SomeLiterals v n ts = (s : Literals v n ts) × (1 ≤ length s.literals)
 
-abbrev SomeAtoms : ℕ → ℕ → Option Quantifier → List Token → Type 0
+abbrev SomeAtoms : ℕ → ℕ → ℕ → List Token → Type 0
 SomeAtoms v n d ts = (s : Atoms v n d ts) × (1 ≤ length s.atoms)
 
-abbrev FromCount : ℕ → Option Quantifier → List Token → Type 0
+abbrev FromCount : ℕ → ℕ → List Token → Type 0
 FromCount v d ts = (n : ℕ) × Behind (Number n) (Behind Line (Rows v n d)) ts
 
-abbrev FromVariables : Option Quantifier → List Token → Type 0
+abbrev FromVariables : ℕ → List Token → Type 0
 FromVariables d ts = (v : ℕ) × Behind (Number v) (FromCount v d) ts
 
-unfoldable From : Phase → ℕ → ℕ → Option Quantifier → List Token → Type 0
+unfoldable From : Phase → ℕ → ℕ → ℕ → List Token → Type 0
 From AtProblem v n d ts = Behind Problem (Behind Format (FromVariables d)) ts
 From AtFormat v n d ts = Behind Format (FromVariables d) ts
 From AtVariables v n d ts = FromVariables d ts
@@ -418,7 +405,7 @@ From AtClauseEnd v n d ts = (1 ≤ n) × Behind Line (Clauses v (n - 1)) ts
 From Broken v n d ts = ⊥
 
 -- behind the last field
-from-none : (p : Phase) (v n : ℕ) (d : Option Quantifier) → whole (at p v n d) ≡ true → From p v n d []
+from-none : (p : Phase) (v n d : ℕ) → whole (at p v n d) ≡ true → From p v n d []
 unfolding whole finished From clauses_fields
 from-none AtProblem v n d h = clash false h refl
 from-none AtFormat v n d h = clash false h refl
@@ -462,7 +449,7 @@ module _ (t : Token) (ts : List Token) where
         omega arith,
       )
 
-  atom_found : {v n : ℕ} {d : Option Quantifier} → in_range v (number_of t) ≡ true → Atoms v n d ts → SomeAtoms v n d (t ∷ ts)
+  atom_found : {v n d : ℕ} → in_range v (number_of t) ≡ true → Atoms v n d ts → SomeAtoms v n d (t ∷ ts)
   unfolding atom_fields
   atom_found {v} e s =
       let k = in-range v (number_of t) e in
@@ -490,7 +477,7 @@ module _ (t : Token) (ts : List Token) where
         behind = s.1.behind;
       }
 
-  block_end_found : {v n : ℕ} {d : Option Quantifier} → is_zero t ≡ true → Behind Line (Rows v n d) ts → Atoms v n d (t ∷ ts)
+  block_end_found : {v n d : ℕ} → is_zero t ≡ true → Behind Line (Rows v n d) ts → Atoms v n d (t ∷ ts)
   unfolding atom_fields
   block_end_found e s =
       record {
@@ -501,7 +488,7 @@ module _ (t : Token) (ts : List Token) where
         behind = s.behind;
       }
 
-  block_found : {v n : ℕ} {d : Option Quantifier} (b : Bool) → t ≡ block_field b → same_kind d (kind b) ≡ false → SomeAtoms v n (Some (kind b)) ts → Rows v n d (t ∷ ts)
+  block_found : {v n d : ℕ} (b : Bool) → t ≡ block_field b → eqb d (kind b) ≡ false → SomeAtoms v n (kind b) ts → Rows v n d (t ∷ ts)
   unfolding blocks_fields
   block_found b e f s =
       let r = s.0.behind in
@@ -527,7 +514,7 @@ clause_found s =
       fields = s.0.fields ∙ ap (clause_fields s.0.literals) r.fields;
     }
 
-matrix-found : {v n : ℕ} {d : Option Quantifier} {ts : List Token} → same_kind d Kind.Forall ≡ false → SomeLiterals v n ts → Rows v n d ts
+matrix-found : {v n d : ℕ} {ts : List Token} → eqb d 2 ≡ false → SomeLiterals v n ts → Rows v n d ts
 unfolding blocks_fields
 matrix-found {ts = ts} e s =
     record {
@@ -543,10 +530,10 @@ matrix-found {ts = ts} e s =
 
 -- what the fields from each phase on are
 abbrev Found : List Token → Type 0
-Found ts = (p : Phase) (v n : ℕ) (d : Option Quantifier) → whole (run (at p v n d) ts) ≡ true → From p v n d ts
+Found ts = (p : Phase) (v n d : ℕ) → whole (run (at p v n d) ts) ≡ true → From p v n d ts
 
 -- one field more
-module _ (t : Token) (ts : List Token) (others : Found ts) (v n : ℕ) (d : Option Quantifier) where
+module _ (t : Token) (ts : List Token) (others : Found ts) (v n d : ℕ) where
   -- a clause's first literal, where a clause or a row begins
   first_found : (p : Phase) → whole (run (clause_start (at p v n d) t) ts) ≡ true → SomeLiterals v n (t ∷ ts)
   unfolding From
@@ -557,20 +544,21 @@ module _ (t : Token) (ts : List Token) (others : Found ts) (v n : ℕ) (d : Opti
   block_start-found : (b : Bool) → t ≡ block_field b → whole (run (block_start (at AtRow v n d) (kind b)) ts) ≡ true → Rows v n d (t ∷ ts)
   unfolding From
   block_start-found b e h =
-      let k = refuses (same_kind d (kind b)) (at AtFirstAtom v n (Some (kind b))) (at AtRow v n d) ts h in
-      block_found t ts b e k.0 (others AtFirstAtom v n (Some (kind b)) k.1)
+      let k = refuses (eqb d (kind b)) (at AtFirstAtom v n (kind b)) (at AtRow v n d) ts h in
+      block_found t ts b e k.0 (others AtFirstAtom v n (kind b) k.1)
 
   row_found : whole (run (row_start (at AtRow v n d) t) ts) ≡ true → Rows v n d (t ∷ ts)
-  unfolding block_field
   row_found h = go (begun t) refl h
     where
       s : State
       s = at AtRow v n d
 
-      go : (k : Option Quantifier) → begun t ≡ k → whole (run (row_of s t k) ts) ≡ true → Rows v n d (t ∷ ts)
-      go (Some Kind.Exists) e i = block_start-found true (exists_is t e) i
-      go (Some Kind.Forall) e i = block_start-found false (forall_is t e) i
-      go None e i = let k = refuses (same_kind d Kind.Forall) (clause_start s t) s ts i in matrix-found k.0 (first_found AtRow k.1)
+      go : (k : Option ℕ) → begun t ≡ k → whole (run (row_of s t k) ts) ≡ true → Rows v n d (t ∷ ts)
+      go (Some k) e i =
+          let b = begun-kind t k e in
+          block_start-found b.0 b.1 (ap (λ (m : ℕ). whole (run (block_start s m) ts)) (sym b.2) ∙ i)
+      go None e i =
+          let k = refuses (eqb d 2) (clause_start s t) s ts i in matrix-found k.0 (first_found AtRow k.1)
 
   from_some : (p : Phase) → whole (run (step (at p v n d) t) ts) ≡ true → From p v n d (t ∷ ts)
   unfolding step step_in From
@@ -619,7 +607,7 @@ from [] p v n d h = from-none p v n d h
 from (t ∷ ts) p v n d h = from_some t ts (from ts) v n d p h
 
 -- a problem line, and rows behind it
-page_of : {v n : ℕ} {d : Option Quantifier} {ts rest : List Token} → ts ≡ Problem ∷ Format ∷ Number v ∷ Number n ∷ Line ∷ rest → Rows v n d rest
+page_of : {v n d : ℕ} {ts rest : List Token} → ts ≡ Problem ∷ Format ∷ Number v ∷ Number n ∷ Line ∷ rest → Rows v n d rest
     → (q : Question) × Shaped q × (ts ≡ page q)
 unfolding page
 page_of {v} {n} {d} {ts} {rest} e r =
@@ -633,7 +621,7 @@ page_of {v} {n} {d} {ts} {rest} e r =
 pub whole-page : (ts : List Token) → whole (run start ts) ≡ true → (q : Question) × Shaped q × (ts ≡ page q)
 unfolding From
 whole-page ts h =
-    let a = from ts AtProblem 0 0 None h in
+    let a = from ts AtProblem 0 0 0 h in
     let b = a.behind in
     let c = b.behind.1 in
     let e = c.behind.1 in

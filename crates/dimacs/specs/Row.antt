@@ -4,32 +4,19 @@ use Rattle.std.specs.Int.Bits.{bit_or}
 use Rattle.dimacs.specs.Shape.{number_of, variable_of, is_line, in_range}
 use Rattle.dimacs.specs.declared.token.Token.{Token}
 use Rattle.dimacs.specs.declared.token.Token.TheVariants.{Line, Problem, Format, Exists, Forall, Number, Negative, Other}
-use Rattle.dimacs.specs.declared.atoms.Row.{Row}
-use Rattle.dimacs.specs.declared.atoms.Row.TheVariants.{Header, Block, Clause}
 
 -- rows: the problem line, a block's line, a clause's line
-abbrev pub header : Row
-header = Header
+abbrev pub header : ℕ
+header = 0
 
-abbrev pub block_row : Row
-block_row = Block
+abbrev pub block_row : ℕ
+block_row = 1
 
-abbrev pub clause_row : Row
-clause_row = Clause
-
-abbrev pub same_row : Row → Row → Bool
-same_row Header Header = true
-same_row Header Block = false
-same_row Header Clause = false
-same_row Block Header = false
-same_row Block Block = true
-same_row Block Clause = false
-same_row Clause Header = false
-same_row Clause Block = false
-same_row Clause Clause = true
+abbrev pub clause_row : ℕ
+clause_row = 2
 
 -- e and a begin a block's row; at a line's end a clause's row begins, until the next field says otherwise
-unfoldable pub row_after : Row → Token → Row
+unfoldable pub row_after : ℕ → Token → ℕ
 row_after row Line = clause_row
 row_after row Problem = row
 row_after row Format = row
@@ -42,18 +29,18 @@ row_after row Other = row
 -- ---- atoms
 
 -- the variable v, from 1 on, stands in a row of that kind
-unfoldable pub mentions : Row → ℕ → Row → List Token → Bool
+unfoldable pub mentions : ℕ → ℕ → ℕ → List Token → Bool
 mentions kind v row [] = false
-mentions kind v row (t ∷ ts) = (same_row row kind && eqb (variable_of t) v) || mentions kind v (row_after row t) ts
+mentions kind v row (t ∷ ts) = (eqb row kind && eqb (variable_of t) v) || mentions kind v (row_after row t) ts
 
 -- this atom stands in no later block's row, and in a clause's
-abbrev pub proper_atom : ℕ → Row → List Token → Bool
+abbrev pub proper_atom : ℕ → ℕ → List Token → Bool
 proper_atom v row ts = not (mentions block_row v row ts) && mentions clause_row v row ts
 
-unfoldable pub proper_atoms : Row → List Token → Bool
+unfoldable pub proper_atoms : ℕ → List Token → Bool
 proper_atoms row [] = true
 proper_atoms row (t ∷ ts) =
-    cond (same_row row block_row && ltb 0 (number_of t)) (proper_atom (number_of t) (row_after row t) ts) true
+    cond (eqb row block_row && ltb 0 (number_of t)) (proper_atom (number_of t) (row_after row t) ts) true
     && proper_atoms (row_after row t) ts
 
 -- ---- clauses
@@ -74,9 +61,9 @@ abbrev pub with_code : Option ℕ → List ℕ → List ℕ
 with_code None codes = codes
 with_code (Some c) codes = c ∷ codes
 
-unfoldable pub codes_from : Row → List Token → List ℕ
+unfoldable pub codes_from : ℕ → List Token → List ℕ
 codes_from row [] = []
-codes_from row (t ∷ ts) = with_code (cond (same_row row clause_row) (code_of_field t) None) (codes_from (row_after row t) ts)
+codes_from row (t ∷ ts) = with_code (cond (eqb row clause_row) (code_of_field t) None) (codes_from (row_after row t) ts)
 
 -- ---- blocks
 
@@ -84,9 +71,9 @@ unfoldable pub with_atom : ℕ → ℕ → ℕ
 with_atom word n = cond (in_range 32 n) (bit_or word (2 ^ (n - 1))) word
 
 -- word: the atoms of the block that the row has so far
-unfoldable pub words_from : Row → ℕ → List Token → List ℕ
+unfoldable pub words_from : ℕ → ℕ → List Token → List ℕ
 words_from row word [] = []
 words_from row word (t ∷ ts) =
-    cond (same_row row block_row)
+    cond (eqb row block_row)
     (cond (is_line t) (word ∷ words_from (row_after row t) 0 ts) (words_from (row_after row t) (with_atom word (number_of t)) ts))
     (words_from (row_after row t) word ts)

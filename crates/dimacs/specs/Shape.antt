@@ -5,8 +5,6 @@ use Rattle.dimacs.specs.declared.token.Token.TheVariants.{Line, Problem, Format,
 use Rattle.dimacs.specs.declared.shape.Phase.{Phase}
 use Rattle.dimacs.specs.declared.shape.Phase.TheVariants.{AtProblem, AtFormat, AtVariables, AtCount, AtHeaderEnd, AtRow, AtFirstAtom, AtAtom, AtBlockEnd, AtClause, AtLiteral, AtClauseEnd, Broken}
 use Rattle.dimacs.specs.declared.shape.State.{State}
-use Rattle.dimacs.specs.declared.shape.Quantifier.{Quantifier}
-use Rattle.dimacs.specs.declared.shape.Quantifier.TheVariants as Kind
 
 -- ---- what a field is
 
@@ -72,13 +70,13 @@ is_cnf (Number n) = false
 is_cnf (Negative n) = false
 is_cnf Other = false
 
--- the kind of the block that a field begins
-unfoldable pub begun : Token → Option Quantifier
+-- the kind of the block that a field begins: 1 (exists) or 2 (forall)
+unfoldable pub begun : Token → Option ℕ
 begun Line = None
 begun Problem = None
 begun Format = None
-begun Exists = Some Kind.Exists
-begun Forall = Some Kind.Forall
+begun Exists = Some 1
+begun Forall = Some 2
 begun (Number n) = None
 begun (Negative n) = None
 begun Other = None
@@ -98,26 +96,18 @@ broken s = into s Broken
 abbrev pub expect : State → Bool → Phase → State
 expect s ok p = cond ok (into s p) (broken s)
 
--- the last block is of that kind
-abbrev pub same_kind : Option Quantifier → Quantifier → Bool
-same_kind None d = false
-same_kind (Some Kind.Exists) Kind.Exists = true
-same_kind (Some Kind.Exists) Kind.Forall = false
-same_kind (Some Kind.Forall) Kind.Exists = false
-same_kind (Some Kind.Forall) Kind.Forall = true
-
--- a block begins, and not of the kind of the block before
-abbrev pub block_start : State → Quantifier → State
-block_start s d = cond (same_kind s.last d) (broken s) (record { phase = AtFirstAtom; variables = s.variables; left = s.left; last = Some d })
+-- a block begins, of the kind 1 (exists) or 2 (forall), and not of the kind of the block before
+abbrev pub block_start : State → ℕ → State
+block_start s d = cond (eqb s.last d) (broken s) (record { phase = AtFirstAtom; variables = s.variables; left = s.left; last = d })
 
 -- a clause begins, where some are left
 abbrev pub clause_start : State → Token → State
 clause_start s t = expect s (ltb 0 s.left && in_range s.variables (variable_of t)) AtLiteral
 
 -- a block where its kind is told; the first clause follows no forall
-abbrev pub row_of : State → Token → Option Quantifier → State
+abbrev pub row_of : State → Token → Option ℕ → State
 row_of s t (Some d) = block_start s d
-row_of s t None = cond (same_kind s.last Kind.Forall) (broken s) (clause_start s t)
+row_of s t None = cond (eqb s.last 2) (broken s) (clause_start s t)
 
 abbrev pub row_start : State → Token → State
 row_start s t = row_of s t (begun t)
@@ -161,7 +151,7 @@ run s [] = s
 run s (t ∷ ts) = run (step s t) ts
 
 abbrev pub start : State
-start = record { phase = AtProblem; variables = 0; left = 0; last = None }
+start = record { phase = AtProblem; variables = 0; left = 0; last = 0 }
 
 -- at the end of the last clause
 unfoldable pub finished : Phase → Bool

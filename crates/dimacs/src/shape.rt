@@ -25,19 +25,19 @@ pub enum Phase {
     Broken,
 }
 
-#[derive(Clone, Copy, PartialEq, Eq)]
-pub enum Quantifier {
-    Exists,
-    Forall,
-}
+// Kinds of blocks: of e, of a.
+const EXISTS: u8 = 1;
 
-// The phase, the problem line's variables, how many clauses are left, and the kind of the last block, if there is one.
+const FORALL: u8 = 2;
+
+// The phase, the problem line's variables, how many clauses are left, and the kind of the last block: 0 for none, 1 for e, 2 for a. It is a number, and no
+// Option of an enum, since `whole` has an answer for every state, whatever that number is.
 #[derive(Clone, Copy)]
 pub struct State {
     pub phase: Phase,
     pub variables: u32,
     pub left: u32,
-    pub last: Option<Quantifier>,
+    pub last: u8,
 }
 
 // The number of a field that has no sign, 0 for others: an Option would be refused just where 0 is, since 0 is no variable and no count.
@@ -92,12 +92,12 @@ fn is_cnf(t: Token) -> bool
 
 // The kind of the block that a field begins.
 #[tactic(auto, unfolding(crate::specs::Shape::begun))]
-fn begun(t: Token) -> Option<Quantifier>
+fn begun(t: Token) -> Option<u8>
     ensures { result ≡ Machine.begun t }
 {
     match t {
-        Token::Exists => Some(Quantifier::Exists),
-        Token::Forall => Some(Quantifier::Forall),
+        Token::Exists => Some(EXISTS),
+        Token::Forall => Some(FORALL),
         _ => None,
     }
 }
@@ -147,25 +147,15 @@ fn at_count(s: State, n: u32) -> State
     }
 }
 
-// Whether the last block is of a kind.
-fn is_last(last: Option<Quantifier>, kind: Quantifier) -> bool
-    ensures { result ≡ Machine.same_kind last kind }
-{
-    match last {
-        Some(l) => l == kind,
-        None => false,
-    }
-}
-
-fn block_start(s: State, kind: Quantifier) -> State
+fn block_start(s: State, kind: u8) -> State
     ensures { result ≡ Machine.block_start s kind }
 {
-    if is_last(s.last, kind) {
+    if s.last == kind {
         return into_phase(s, Phase::Broken);
     }
     State {
         phase: Phase::AtFirstAtom,
-        last: Some(kind),
+        last: kind,
         ..s
     }
 }
@@ -185,7 +175,7 @@ fn row_start(s: State, t: Token) -> State
     if let Some(kind) = begun(t) {
         return block_start(s, kind);
     }
-    if is_last(s.last, Quantifier::Forall) {
+    if s.last == FORALL {
         return into_phase(s, Phase::Broken);
     }
     clause_start(s, t)
@@ -254,7 +244,7 @@ pub fn run(text: &[u8], from: usize) -> State
         phase: Phase::AtProblem,
         variables: 0,
         left: 0,
-        last: None,
+        last: 0,
     };
     let mut at = from;
     while at < text.len() {

@@ -13,8 +13,8 @@ module _ {net : List ℕ} {m w : ℕ} {cells : List ℕ} where
   pub shows_none : length net ≤ 67 + length cells → Shows net m w cells 0
   shows_none l = record { long = l; each = λ j h. absurd (omega arith) }
 
-  pub shows_at : {k j v r : ℕ} → Shows net m w cells k → j < k → v ≡ value_of cells j → (0 < v → r ≡ reason_of cells j) → Right net m w j v r
-  shows_at {j = j} s l p q h = rw (p, q h) (s.each j l (rw (← p) h))
+  pub shows_at : {k j v r : ℕ} → Shows net m w cells k → j < k → v ≡ value_of cells j → r ≡ reason_of cells j → Right net m w j v r
+  shows_at {j = j} s l p q = rw (p, q) (s.each j l)
 
   pub shows_next : {k v r head head' : ℕ} {cells' : List ℕ} → HasCell cells k → Shows net m w cells k → Right net m w k v r → Stored k v r head cells cells' head' → Shows net m w cells' (k + 1)
   shows_next {k} h s f S = record {

@@ -6,14 +6,13 @@
 ghost use Rattle.std.specs.Prelude.{◌≡◌, true, ◌+◌, ◌<◌, ◌≤◌, length};
 ghost use Rattle.words.specs.Word.{bit};
 ghost use Rattle.formula.specs.Reason.{Explains};
-ghost use Rattle.net.specs.Layout.{HasNode, Ground, formula_at, val, number};
-ghost use Rattle.judge.specs.Told.{value_told, reason_told};
+ghost use Rattle.net.specs.Layout.{HasNode, Ground, formula_at, val};
 ghost use Rattle.judge.specs.Judge.{Right, Joined};
 ghost use Rattle.implicant.specs.Implicant.{Shows};
 
 use cube::Cube64;
 use judge::{Known, cells, forward, known_at};
-use net::node::decided;
+use net::node::{decided, gate_decided};
 use net::{Op, node_at};
 use words::Word;
 
@@ -23,18 +22,15 @@ fn cost(reason: u64, own: u64) -> u32 {
 }
 
 // Whether y decides a gate with a smaller reason than x has.
-fn better(d: bool, x: Option<Known>, y: Option<Known>, own: u64) -> bool
-    ensures { result ≡ true → value_told y ≡ number d }
+fn better(d: u8, x: Known, y: Known, own: u64) -> bool
+    ensures { result ≡ true → y.value ≡ d }
 {
-    match (x, y) {
-        (Some(p), Some(q)) => q.truth == d && cost(q.reason, own) < cost(p.reason, own),
-        _ => false,
-    }
+    y.value == d && cost(y.reason, own) < cost(x.reason, own)
 }
 
-// A gate that the truth d decides, AND by false, OR by true: by its right side, where that is the cheaper reason.
-fn joined(d: bool, x: Option<Known>, y: Option<Known>, own: u64) -> Option<Known>
-    ensures { Joined (number d) (value_told x) (reason_told x) (value_told y) (reason_told y) (value_told result) (reason_told result) }
+// A gate that the value d decides, AND by 1, OR by 2: by its right side, where that is the cheaper reason.
+fn joined(d: u8, x: Known, y: Known, own: u64) -> Known
+    ensures { Joined d x.value x.reason y.value y.reason result.value result.reason }
 {
     if better(d, x, y, own) {
         return y;
@@ -43,22 +39,16 @@ fn joined(d: bool, x: Option<Known>, y: Option<Known>, own: u64) -> Option<Known
 }
 
 // What is known of node k, from what is known of the nodes that it names.
-fn explain_node(net: &[u64], k: usize, cube: Cube64, own: u64, cells: &[u64]) -> Option<Known>
+fn explain_node(net: &[u64], k: usize, cube: Cube64, own: u64, cells: &[u64]) -> Known
     requires { Ground net.now × HasNode net.now k × Shows net.now cube.mask cube.values cells.now k }
-    ensures { Right net.now cube.mask cube.values k (value_told result) (reason_told result) }
+    ensures { Right net.now cube.mask cube.values k result.value result.reason }
 {
     let node = node_at(net, k);
     match node.op {
         Op::False | Op::True | Op::Input => forward::leaf(node.op, node.left, cube),
         Op::Not => forward::negated(known_at(cells, node.left)),
-        Op::And => joined(
-            false,
-            known_at(cells, node.left),
-            known_at(cells, node.right),
-            own,
-        ),
-        Op::Or => joined(
-            true,
+        Op::And | Op::Or => joined(
+            gate_decided(node.op),
             known_at(cells, node.left),
             known_at(cells, node.right),
             own,
@@ -76,22 +66,16 @@ fn explain_at(net: &[u64], k: usize, cube: Cube64, own: u64, cells: &mut [u64])
     requires { Ground net.now × HasNode net.now k × Shows net.now cube.mask cube.values cells.old k }
     ensures { Shows net.now cube.mask cube.values cells.new (k + 1) × (length cells.new ≡ length cells.old) }
 {
-    match explain_node(net, k, cube, own, &cells[..]) {
-        Some(known) => {
-            cells::put(cells, k, known, 0);
-        }
-        None => {
-            cells::unset(cells, k);
-        }
-    }
+    let known = explain_node(net, k, cube, own, &cells[..]);
+    cells::put(cells, k, known, 0);
 }
 
-// What is known of node a. What the scratch holds before is of no account.
-fn explain(net: &[u64], a: usize, cube: Cube64, own: u64, cells: &mut [u64]) -> Option<Known>
+// The value of node a and its reason. What the scratch holds before is of no account.
+fn explain(net: &[u64], a: usize, cube: Cube64, own: u64, cells: &mut [u64]) -> Known
     requires { Ground net.now × HasNode net.now a × (length net.now ≤ 67 + length cells.old) }
-    ensures { Right net.now cube.mask cube.values a (value_told result) (reason_told result) × (length cells.new ≡ length cells.old) }
+    ensures { Right net.now cube.mask cube.values a result.value result.reason × (length cells.new ≡ length cells.old) }
 {
-    for k in 0..=a {
+    for k in 0..a + 1 {
         explain_at(net, k, cube, own, cells);
     }
     known_at(&cells[..], a)
@@ -104,18 +88,18 @@ fn least(net: &[u64], a: usize, reason: u64, own: u64) -> bool
     cost(reason, own) == 0 || node_at(net, a).op.is_quantifier()
 }
 
-// A reason for which node a has the truth under the word, of no more variables outside `own` than the given one.
+// A reason for which node a has the value under the word, of no more variables outside `own` than the given one.
 pub fn implicant(
     net: &[u64],
     a: usize,
-    truth: bool,
+    value: u8,
     word: u64,
     reason: u64,
     own: u64,
     scratch: &mut [u64],
 ) -> u64
-    requires { Ground net.now × HasNode net.now a × (length net.now ≤ 67 + length scratch.old) }
-    ensures { (Explains (formula_at net.now a) (val (number truth)) (bit reason) (bit word) → Explains (formula_at net.now a) (val (number truth)) (bit result) (bit word)) × (length scratch.new ≡ length scratch.old) }
+    requires { Ground net.now × HasNode net.now a × (length net.now ≤ 67 + length scratch.old) × (0 < value) }
+    ensures { (Explains (formula_at net.now a) (val value) (bit reason) (bit word) → Explains (formula_at net.now a) (val value) (bit result) (bit word)) × (length scratch.new ≡ length scratch.old) }
 {
     if least(net, a, reason, own) {
         return reason;
@@ -124,10 +108,8 @@ pub fn implicant(
         mask: forward::ALL,
         values: word,
     };
-    let Some(known) = explain(net, a, full, own, scratch) else {
-        return reason;
-    };
-    if known.truth == truth && cost(known.reason, own) < cost(reason, own) {
+    let known = explain(net, a, full, own, scratch);
+    if known.value == value && cost(known.reason, own) < cost(reason, own) {
         return known.reason;
     }
     reason

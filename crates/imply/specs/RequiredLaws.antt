@@ -167,20 +167,41 @@ module _ {net : List ℕ} {a t m w : ℕ} where
             (λ e. rw (other-value S i (λ q. omega tests), other-reason S i (λ q. omega tests)) (W.each i l));
       }
 
-  pub wanted_at : {k v r : ℕ} {wants : List ℕ} → k ≤ a → Wanted net a t m w wants → v ≡ value_of wants k → (0 < v → r ≡ reason_of wants k) → 0 < v → Required net a t m w k v r
-  wanted_at {k} l W p q s = rw (p, q s) (W.each k l (rw (← p) s))
+  pub wanted_at : {k v r : ℕ} {wants : List ℕ} → k ≤ a → Wanted net a t m w wants → v ≡ value_of wants k → r ≡ reason_of wants k → 0 < v → Required net a t m w k v r
+  wanted_at {k} l W p q = rw (p, q) (W.each k l)
 
   pub wanted_wiped : {wants wants' : List ℕ} → Wiped a wants wants' → length net ≤ 67 + length wants → Wanted net a t m w wants'
   wanted_wiped p l = record { long = omega (arith, p.same); each = λ k h z. absurd (omega (arith, p.none k h)) }
 
 -- ---- node k names node i: both scratches have a place for it
 
-pub named-fits : {net cells : List ℕ} {n m w k i : ℕ} → (Ground net × HasNode net k × Judged net m w cells × (length net ≤ 67 + n)) → i < k
-    → HasCell cells i × (2 * i + 1 < n) × (i < 65535)
-named-fits h l = (omega (arith, h.1, h.2.long), omega (arith, h.1, h.3), omega (arith, h.1, h.0.few))
+pub named-fits : {net cells : List ℕ} {n m w k i v : ℕ} → (Ground net × HasNode net k × Judged net m w cells × (length net ≤ 67 + n)) → i < k → v < 3
+    → HasCell cells i × (2 * i + 1 < n) × (i < 65535) × (v < 3)
+named-fits h l s = (omega (arith, h.1, h.2.long), omega (arith, h.1, h.3), omega (arith, h.1, h.0.few), s)
 
--- ---- wiping: the words in front are 0
+-- ---- wiping: the first i words are 0
 
+pub record Wiping (i : ℕ) (wants₀ wants : List ℕ) : Type 0 where
+  pub same : length wants ≡ length wants₀
+  pub zeros : (j : ℕ) → j < i → get_or wants j 0 ≡ 0
+
+pub wiping_none : (wants : List ℕ) → Wiping 0 wants wants
+wiping_none wants = record { same = refl; zeros = λ j h. absurd (omega arith) }
+
+pub wiping_more : {i : ℕ} {wants₀ wants : List ℕ} → i < length wants → Wiping i wants₀ wants → Wiping (i + 1) wants₀ (set wants i 0)
+wiping_more {i} {wants = wants} l p =
+    record {
+      same = length-set wants i 0 ∙ p.same;
+      zeros = λ j h. by_bool (eqb j i)
+          (λ e. rw (eqb-true j i e) (get_or-set_same wants i 0 0 l))
+          (λ e. get_or-set_other wants i j 0 0 (λ q. omega tests) ∙ p.zeros j (omega tests));
+    }
+
+pub wiping-end : {i a : ℕ} {wants₀ wants : List ℕ} → 2 * a + 2 ≤ i → Wiping i wants₀ wants → Wiped a wants₀ wants
+unfolding value_of
+wiping-end l p = record { same = p.same; none = λ k h. rw (p.zeros (2 * k) (omega arith)) }
+
+-- the words in front are filled with 0
 pub wiped_front : {a : ℕ} {front wants : List ℕ} → HasCell wants a → front ≡ replicate (length (take (2 * a + 2) wants)) 0 → Wiped a wants (front ++ drop (2 * a + 2) wants)
 unfolding value_of
 wiped_front {a} {front} {wants} l e =

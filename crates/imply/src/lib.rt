@@ -3,7 +3,7 @@
 #![tactic(auto)]
 
 ghost use Rattle.std.specs.Prelude.{◌≡◌, List, ℕ, ◌+◌, ◌-◌, ◌<◌, ◌≤◌, ◌^◌, length};
-ghost use Rattle.net.specs.Layout.{HasNode, Ground, Is, number};
+ghost use Rattle.net.specs.Layout.{HasNode, Ground, Is};
 ghost use Rattle.net.specs.Op.{code_of};
 ghost use Rattle.judge.specs.Cells.{HasCell};
 ghost use Rattle.judge.specs.Judge.{Judged};
@@ -13,7 +13,7 @@ ghost use Rattle.imply.specs.Gather.{Gathered};
 
 use cube::Cube64;
 use judge::{Known, cells, forward, known_at};
-use net::node::decided;
+use net::node::{decided, gate_decided};
 use net::{Node, Op, node_at};
 use words::Word;
 
@@ -25,46 +25,48 @@ fn wipe(wants: &mut [u64], a: usize)
     wants[..2 * a + 2].fill(0);
 }
 
-// Node k is to have the truth, unless something is known or wanted of it already.
+// Node k is to have the value, unless something is known or wanted of it already.
 fn offer(cells: &[u64], wants: &mut [u64], k: usize, want: Known)
-    requires { HasCell cells.now k × HasCell wants.old k × (k < 65535) }
-    ensures { (length wants.new ≡ length wants.old) × ((net : List ℕ) (a t m w : ℕ) → Wanted net a t m w wants.old → Required net a t m w k (number want.truth) want.reason → Wanted net a t m w wants.new) }
+    requires { HasCell cells.now k × HasCell wants.old k × (k < 65535) × (want.value < 3) }
+    ensures { (length wants.new ≡ length wants.old) × ((net : List ℕ) (a t m w : ℕ) → Wanted net a t m w wants.old → Required net a t m w k want.value want.reason → Wanted net a t m w wants.new) }
 {
-    if known_at(cells, k).is_some() || known_at(&wants[..], k).is_some() {
+    if known_at(cells, k).value != 0 || known_at(&wants[..], k).value != 0 {
         return;
     }
     cells::put(wants, k, want, 0);
 }
 
-// What a gate that the truth d decides, AND by false and OR by true, wants of its sides: its undecided truth of both, its decided truth of one if the other has not got it.
+// What a gate wants of its sides: its undecided truth of both, its decided truth of one if the other has not got it.
 fn pass_gate(
     net: &[u64],
     k: usize,
     node: Node,
-    d: bool,
     want: Known,
     cube: Cube64,
     cells: &[u64],
     wants: &mut [u64],
 )
-    requires is { Is net.now k (code_of node.op) node.left node.right node.mask × (4 ≤ code_of node.op) × (code_of node.op < 6) × (number d ≡ code_of node.op - 3) }
+    requires is { Is net.now k (code_of node.op) node.left node.right node.mask × (4 ≤ code_of node.op) × (code_of node.op < 6) × (0 < want.value) × (want.value < 3) }
     requires grounded { Ground net.now × HasNode net.now k × Judged net.now cube.mask cube.values cells.now × (length net.now ≤ 67 + length wants.old) }
-    ensures { Passed net.now cube.mask cube.values k (number want.truth) want.reason wants.old wants.new }
+    ensures { Passed net.now cube.mask cube.values k want.value want.reason wants.old wants.new }
 {
-    if want.truth != d {
+    let d = gate_decided(node.op);
+    if want.value != d {
         offer(cells, wants, node.left, want);
         offer(cells, wants, node.right, want);
         return;
     }
-    if let Some(x) = known_at(cells, node.left) {
-        if x.truth != d {
+    let x = known_at(cells, node.left);
+    if x.value != 0 {
+        if x.value != d {
             let reason = want.reason | x.reason;
             offer(cells, wants, node.right, Known { reason, ..want });
         }
         return;
     }
-    if let Some(y) = known_at(cells, node.right) {
-        if y.truth != d {
+    let y = known_at(cells, node.right);
+    if y.value != 0 {
+        if y.value != d {
             let reason = want.reason | y.reason;
             offer(cells, wants, node.left, Known { reason, ..want });
         }
@@ -81,11 +83,11 @@ fn pass_quantifier(
     cells: &[u64],
     wants: &mut [u64],
 )
-    requires is { Is net.now k (code_of node.op) node.left node.right node.mask × (6 ≤ code_of node.op) }
+    requires is { Is net.now k (code_of node.op) node.left node.right node.mask × (6 ≤ code_of node.op) × (0 < want.value) × (want.value < 3) }
     requires grounded { Ground net.now × HasNode net.now k × Judged net.now cube.mask cube.values cells.now × (length net.now ≤ 67 + length wants.old) }
-    ensures { Passed net.now cube.mask cube.values k (number want.truth) want.reason wants.old wants.new }
+    ensures { Passed net.now cube.mask cube.values k want.value want.reason wants.old wants.new }
 {
-    if want.truth == decided(node.op) {
+    if want.value == decided(node.op) {
         return;
     }
     if cube.mask & node.mask == 0 {
@@ -103,9 +105,9 @@ fn pass(
     cells: &[u64],
     wants: &mut [u64],
 )
-    requires is { Is net.now k (code_of node.op) node.left node.right node.mask }
+    requires is { Is net.now k (code_of node.op) node.left node.right node.mask × (0 < want.value) × (want.value < 3) }
     requires grounded { Ground net.now × HasNode net.now k × Judged net.now cube.mask cube.values cells.now × (length net.now ≤ 67 + length wants.old) }
-    ensures { Passed net.now cube.mask cube.values k (number want.truth) want.reason wants.old wants.new }
+    ensures { Passed net.now cube.mask cube.values k want.value want.reason wants.old wants.new }
 {
     match node.op {
         Op::False | Op::True | Op::Input => {}
@@ -114,23 +116,22 @@ fn pass(
             wants,
             node.left,
             Known {
-                truth: !want.truth,
+                value: 3 - want.value,
                 ..want
             },
         ),
-        Op::And => pass_gate(net, k, node, false, want, cube, cells, wants),
-        Op::Or => pass_gate(net, k, node, true, want, cube, cells, wants),
+        Op::And | Op::Or => pass_gate(net, k, node, want, cube, cells, wants),
         Op::Exists | Op::Forall => pass_quantifier(net, k, node, want, cube, cells, wants),
     }
 }
 
-fn with(values: u64, p: u64, truth: bool) -> u64
-    ensures { (x : ℕ) → p ≡ 2 ^ x → Valued values x (number truth) result }
+fn with(values: u64, p: u64, value: u8) -> u64
+    ensures { (x : ℕ) → p ≡ 2 ^ x → Valued values x value result }
 {
-    if truth { values | p } else { values }
+    if value == 2 { values | p } else { values }
 }
 
-// A loose variable that node k reads has the truth that is wanted of the node.
+// A loose variable that node k reads has the value that is wanted of the node.
 fn take(
     net: &[u64],
     k: usize,
@@ -141,7 +142,7 @@ fn take(
     f: Cube64,
 ) -> Cube64
     requires { Is net.now k (code_of node.op) node.left node.right node.mask × Ground net.now }
-    ensures { (a t m w : ℕ) → Required net.now a t m w k (number want.truth) want.reason → Forcing net.now a t loose m w f.mask f.values whys.old → Forcing net.now a t loose m w result.mask result.values whys.new }
+    ensures { (a t m w : ℕ) → Required net.now a t m w k want.value want.reason → Forcing net.now a t loose m w f.mask f.values whys.old → Forcing net.now a t loose m w result.mask result.values whys.new }
 {
     let Op::Input = node.op else {
         return f;
@@ -152,7 +153,7 @@ fn take(
         return f;
     }
     let p = u64::one(x);
-    let values = with(f.values, p, want.truth);
+    let values = with(f.values, p, want.value);
     whys[left] = want.reason;
     Cube64 {
         mask: f.mask | p,
@@ -174,9 +175,10 @@ fn force_at(
     requires { Ground net.now × HasNode net.now k × Judged net.now cube.mask cube.values cells.now × (length net.now ≤ 67 + length wants.old) }
     ensures { (length wants.new ≡ length wants.old) × ((a t : ℕ) → k ≤ a → Wanted net.now a t cube.mask cube.values wants.old → Forcing net.now a t loose cube.mask cube.values f.mask f.values whys.old → Wanted net.now a t cube.mask cube.values wants.new × Forcing net.now a t loose cube.mask cube.values result.mask result.values whys.new) }
 {
-    let Some(want) = known_at(&wants[..], k) else {
+    let want = known_at(&wants[..], k);
+    if want.value == 0 || want.value > 2 {
         return f;
-    };
+    }
     let node = node_at(net, k);
     pass(net, k, node, want, cube, cells, wants);
     take(net, k, node, want, loose, whys, f)
@@ -186,19 +188,19 @@ fn force_at(
 pub fn force(
     net: &[u64],
     a: usize,
-    target: bool,
+    target: u8,
     loose: u64,
     cube: Cube64,
     cells: &[u64],
     wants: &mut [u64],
     whys: &mut [u64; 64],
 ) -> Cube64
-    requires { Posed net.now a (number target) loose cube.mask cube.values cells.now × (length whys.old ≡ 64) × (length net.now ≤ 67 + length wants.old) }
-    ensures { Forcing net.now a (number target) loose cube.mask cube.values result.mask result.values whys.new × (length wants.new ≡ length wants.old) }
+    requires { Posed net.now a target loose cube.mask cube.values cells.now × (length whys.old ≡ 64) × (length net.now ≤ 67 + length wants.old) }
+    ensures { Forcing net.now a target loose cube.mask cube.values result.mask result.values whys.new × (length wants.new ≡ length wants.old) }
 {
     wipe(wants, a);
     let want = Known {
-        truth: target,
+        value: target,
         reason: 0,
     };
     offer(cells, wants, a, want);

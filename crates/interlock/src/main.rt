@@ -12,8 +12,8 @@ use std::io::{Read, Write};
 // The most that is read.
 const TEXT_BYTES: usize = 65536;
 
-// A thousand lines of twenty-one bytes, as of a wide sheet.
-const OUTPUT_BYTES: usize = 21000;
+// A thousand lines of a wide sheet's answers.
+const OUTPUT_BYTES: usize = 1000 * text::WIDE_LINE_BYTES;
 
 // All of what is printed for a text, from the buffer's start.
 fn respond_whole(text: &[u8], output: &mut [u8]) -> usize

@@ -1,13 +1,11 @@
 -- The cells of a search: what a store leaves, and that undoing it gives the old cells back. Assumes nothing.
-use Prim.Native.Nat.{ℕ, zero, suc, ◌+◌, ◌*◌, ◌%◌, ◌≤◌, ◌<◌}
-use Rattle.words.specs.Logic.{tests}
-use Rattle.words.proofs.Logic.{by_bool}
-use Rattle.std.proofs.Common.{arith, ◌∙◌, ap, lt-ltb, length-set, get_or-set_same, get_or-set_other}
-use Rattle.std.specs.Prelude.{◌≡◌, refl, List, [], ◌∷◌, length, get_or, replicate, ltb}
+use Prim.Native.Nat.{ℕ, zero, suc, ◌+◌, ◌*◌, ◌≤◌, ◌<◌}
+use Rattle.std.proofs.Common.{arith, ◌∙◌, ap, length-set, get_or-set_same, get_or-set_other}
+use Rattle.std.specs.Prelude.{◌≡◌, refl, List, [], ◌∷◌, length, get_or, replicate}
 use Rattle.std.proofs.Math.ListN.{set}
 use Rattle.std.proofs.lemmas.List.{set-get_or, set_comm}
 use Rattle.std.proofs.Math.Seq.{set-set}
-use Rattle.judge.specs.Cells.{HasCell, told_by, value_of, reason_of, previous, cleared, Vacant, Stored, end, Link, Chain, Trail}
+use Rattle.judge.specs.Cells.{HasCell, value_of, reason_of, previous, cleared, Vacant, Stored, end, Link, Chain, Trail}
 
 -- ---- the two words of node k
 
@@ -44,19 +42,13 @@ module _ (cells : List ℕ) (k x y : ℕ) where
 
 -- ---- what is read after node k was set
 
-told_low : (v : ℕ) → v < 3 → told_by v ≡ v
-told_low v l = rw (lt-ltb v 3 l) refl
-
-pub told_none : (x : ℕ) → (x ≡ 1 → ⊥) → (x ≡ 2 → ⊥) → 0 ≡ told_by x
-told_none x a b = by_bool (ltb x 3) (λ e. rw e (omega (tests, a, b))) (λ e. rw e refl)
-
 module _ {k v r head head' : ℕ} {cells cells' : List ℕ} (S : Stored k v r head cells cells' head') where
   pub stored-long : length cells' ≡ length cells
   stored-long = rw (S.is, length-set, length-set)
 
   pub stored-value : HasCell cells k → v < 3 → value_of cells' k ≡ v
   unfolding value_of
-  stored-value h l = rw (S.is, first-same cells k (4 * head + v) r h) (let e : (4 * head + v) % 4 ≡ v = omega (arith, l) in ap told_by e ∙ told_low v l)
+  stored-value h l = rw (S.is, first-same cells k (4 * head + v) r h) (omega arith)
 
   pub stored-reason : HasCell cells k → reason_of cells' k ≡ r
   unfolding reason_of

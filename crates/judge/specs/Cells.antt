@@ -1,18 +1,14 @@
 -- The scratch of a search: two words for each node have the node's value, the node that was set before it, and the value's reason, so that the nodes set
 -- since a mark are a chain through the cells. Assumes nothing.
-use Rattle.std.specs.Prelude.{ℕ, zero, suc, ◌+◌, ◌*◌, ◌/◌, ◌%◌, ◌<◌, ◌≡◌, cond, List, length, get_or, set, ltb}
+use Rattle.std.specs.Prelude.{ℕ, zero, suc, ◌+◌, ◌*◌, ◌/◌, ◌%◌, ◌<◌, ◌≡◌, List, length, get_or, set}
 
 -- there is a cell for node k
 abbrev pub HasCell : List ℕ → ℕ → Type 0
 HasCell cells k = 2 * k + 1 < length cells
 
--- what two bits tell: 3 tells nothing
-abbrev pub told_by : ℕ → ℕ
-told_by x = cond (ltb x 3) x 0
-
 -- 0 nothing is known, 1 false, 2 true
 unfoldable pub value_of : List ℕ → ℕ → ℕ
-value_of cells k = told_by (get_or cells (2 * k) 0 % 4)
+value_of cells k = get_or cells (2 * k) 0 % 4
 
 unfoldable pub reason_of : List ℕ → ℕ → ℕ
 reason_of cells k = get_or cells (2 * k + 1) 0

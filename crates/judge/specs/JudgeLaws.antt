@@ -96,8 +96,8 @@ pub right-low : {net : List ℕ} {m w k v r : ℕ} → Right net m w k v r → v
 right-low {v = v} f = by_bool (ltb 0 v) (λ e. (f (omega tests)).low) (λ e. omega tests)
 
 module _ {net : List ℕ} {m w : ℕ} {cells : List ℕ} where
-  pub judged-at : {k v r : ℕ} → Judged net m w cells → v ≡ value_of cells k → (0 < v → r ≡ reason_of cells k) → Right net m w k v r
-  judged-at {k} j p q l = rw (p, q l) (j.each k (rw (← p) l))
+  pub judged-at : {k v r : ℕ} → Judged net m w cells → v ≡ value_of cells k → r ≡ reason_of cells k → Right net m w k v r
+  judged-at {k} j p q = rw (p, q) (j.each k)
 
   pub judged-set : {k v r head head' : ℕ} {cells' : List ℕ} → HasCell cells k → Judged net m w cells → Right net m w k v r → Stored k v r head cells cells' head' → Judged net m w cells'
   judged-set {k} {v} {r} h j f S = record {

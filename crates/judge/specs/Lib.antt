@@ -1,4 +1,3 @@
-pub mod Told
 pub mod Cells
 pub mod CellLaws
 pub mod Judge

@@ -1,42 +1,33 @@
-// The scratch of a search: two words a node. The first has the node's truth and the node that was set before it, the second the truth's reason; both are
+// The scratch of a search: two words a node. The first has the node's value and the node that was set before it, the second the value's reason; both are
 // 0 where nothing is known. So the nodes set since a mark are a chain through the cells, which `undo` follows back.
-ghost use Rattle.std.specs.Prelude.{◌≡◌, true, false, List, ℕ, ◌+◌, ◌*◌, ◌<◌, length, set};
-ghost use Rattle.net.specs.Layout.{number};
-ghost use Rattle.judge.specs.Told.{value_told, reason_told};
+ghost use Rattle.std.specs.Prelude.{◌≡◌, true, List, ℕ, ◌+◌, ◌*◌, ◌<◌, length, set};
 ghost use Rattle.judge.specs.Cells.{HasCell, Vacant, value_of, reason_of, Stored, Trail, previous, cleared};
 
 // The head of an empty chain of set cells.
 pub const END: u16 = 65535;
 
-// What is known of a node: its truth, and the variables that force it.
+// What is known of a node: 0 nothing, 1 false, 2 true; and the variables that force the value. A number and no Option of a truth, since `known_at`
+// tells the two words of a cell whatever they are, the reason of what is not known too.
 #[derive(Clone, Copy)]
 pub struct Known {
-    pub truth: bool,
+    pub value: u8,
     pub reason: u64,
 }
 
-// Whether the truth d is known.
-pub fn shows(x: Option<Known>, d: bool) -> bool
-    ensures { (result ≡ true → value_told x ≡ number d) × (result ≡ false → value_told x ≡ number d → ⊥) }
-{
-    match x {
-        Some(known) => known.truth == d,
-        None => false,
-    }
-}
+pub const NOTHING: Known = Known {
+    value: 0,
+    reason: 0,
+};
 
-pub fn known_at(cells: &[u64], k: usize) -> Option<Known>
+pub fn known_at(cells: &[u64], k: usize) -> Known
     requires { HasCell cells.now k }
-    ensures { (value_told result ≡ value_of cells.now k) × (0 < value_told result → reason_told result ≡ reason_of cells.now k) }
+    ensures { (result.value ≡ value_of cells.now k) × (result.reason ≡ reason_of cells.now k) × (result.value < 4) }
 {
     let at = 2 * k;
-    let truth = match cells[at] % 4 {
-        1 => false,
-        2 => true,
-        _ => return None,
-    };
-    let reason = cells[at + 1];
-    Some(Known { truth, reason })
+    Known {
+        value: (cells[at] % 4) as u8,
+        reason: cells[at + 1],
+    }
 }
 
 // Whether nothing is known of node k.
@@ -48,20 +39,13 @@ pub fn vacant(cells: &[u64], k: usize) -> bool
     cells[at] == 0 && cells[at + 1] == 0
 }
 
-// How a cell tells a truth.
-fn bits(truth: bool) -> u64
-    ensures { result ≡ number truth }
-{
-    if truth { 2 } else { 1 }
-}
-
 // Node k is set, and its cell is the first of the chain.
 pub fn put(cells: &mut [u64], k: usize, known: Known, head: u16) -> u16
-    requires { HasCell cells.old k × (k < 65535) }
-    ensures { Stored k (number known.truth) known.reason head cells.old cells.new result }
+    requires { HasCell cells.old k × (k < 65535) × (known.value < 3) }
+    ensures { Stored k known.value known.reason head cells.old cells.new result }
 {
     let at = 2 * k;
-    cells[at] = 4 * u64::from(head) + bits(known.truth);
+    cells[at] = 4 * u64::from(head) + u64::from(known.value);
     cells[at + 1] = known.reason;
     k as u16
 }

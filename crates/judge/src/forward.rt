@@ -1,15 +1,14 @@
-// Three-valued judging of nodes under a partial assignment, with a reason for each known truth.
+// Three-valued judging of nodes under a partial assignment, with a reason for each known value.
 ghost use Rattle.std.specs.Prelude.{◌≡◌, List, ℕ, ◌*◌, ◌<◌, ◌≤◌, length};
-ghost use Rattle.net.specs.Layout.{HasNode, Ground, number};
+ghost use Rattle.net.specs.Layout.{HasNode, Ground};
 ghost use Rattle.net.specs.Op.{code_of};
 ghost use Rattle.judge.specs.Cells.{HasCell, Vacant};
-ghost use Rattle.judge.specs.Told.{value_told, reason_told};
 ghost use Rattle.judge.specs.Judge.{Judged, Right, RightInput, RightLeaf, Negated, Joined, Bound, Judging};
 
-use crate::cells::{Known, known_at, shows};
+use crate::cells::{Known, known_at};
 use crate::{cells, dirty};
 use cube::Cube64;
-use net::node::decided;
+use net::node::{decided, gate_decided};
 use net::{Op, node_at};
 use words::Word;
 
@@ -24,98 +23,116 @@ pub fn variable(left: usize) -> u8
 }
 
 // An input is known where the cube fixes its variable.
-fn input(cube: Cube64, v: u8) -> Option<Known>
+fn input(cube: Cube64, v: u8) -> Known
     requires { v < 64 }
-    ensures { RightInput cube.mask cube.values v (value_told result) (reason_told result) }
+    ensures { RightInput cube.mask cube.values v result.value result.reason }
 {
-    if !cube.mask.has(v) {
-        return None;
+    if cube.mask.has(v) {
+        let only = u64::one(v);
+        if cube.values.has(v) {
+            return Known {
+                value: 2,
+                reason: only,
+            };
+        }
+        return Known {
+            value: 1,
+            reason: only,
+        };
     }
-    Some(Known {
-        truth: cube.values.has(v),
-        reason: u64::one(v),
-    })
+    Known {
+        value: 0,
+        reason: 0,
+    }
 }
 
 // A constant or an input.
-pub fn leaf(op: Op, left: usize, cube: Cube64) -> Option<Known>
+pub fn leaf(op: Op, left: usize, cube: Cube64) -> Known
     requires { (code_of op < 3) × (code_of op ≡ 2 → left < 64) }
-    ensures { RightLeaf (code_of op) left cube.mask cube.values (value_told result) (reason_told result) }
+    ensures { RightLeaf (code_of op) left cube.mask cube.values result.value result.reason }
 {
     match op {
-        Op::False => Some(Known {
-            truth: false,
+        Op::False => Known {
+            value: 1,
             reason: 0,
-        }),
-        Op::True => Some(Known {
-            truth: true,
+        },
+        Op::True => Known {
+            value: 2,
             reason: 0,
-        }),
+        },
         _ => input(cube, variable(left)),
     }
 }
 
-pub fn negated(x: Option<Known>) -> Option<Known>
-    ensures { Negated (value_told x) (reason_told x) (value_told result) (reason_told result) }
+pub fn negated(x: Known) -> Known
+    requires { x.value < 4 }
+    ensures { Negated x.value x.reason result.value result.reason }
 {
-    let known = x?;
-    Some(Known {
-        truth: !known.truth,
-        ..known
-    })
-}
-
-// A gate that the truth d decides: AND by false, OR by true.
-pub fn joined(d: bool, x: Option<Known>, y: Option<Known>) -> Option<Known>
-    ensures { Joined (number d) (value_told x) (reason_told x) (value_told y) (reason_told y) (value_told result) (reason_told result) }
-{
-    if shows(x, d) {
+    if x.value == 0 {
         return x;
     }
-    if shows(y, d) {
+    Known {
+        value: 3 - x.value,
+        reason: x.reason,
+    }
+}
+
+// A gate that the value d decides: AND by 1, OR by 2.
+pub fn joined(d: u8, x: Known, y: Known) -> Known
+    ensures { Joined d x.value x.reason y.value y.reason result.value result.reason }
+{
+    if x.value == d {
+        return x;
+    }
+    if y.value == d {
         return y;
     }
-    let left = x?;
-    let right = y?;
-    Some(Known {
-        reason: left.reason | right.reason,
-        ..left
-    })
+    if x.value == y.value {
+        return Known {
+            value: x.value,
+            reason: x.reason | y.reason,
+        };
+    }
+    Known {
+        value: 0,
+        reason: 0,
+    }
 }
 
-// A quantifier over the mask that the truth d decides: EXISTS by true, FORALL by false.
-pub fn bound(d: bool, mask: u64, x: Option<Known>) -> Option<Known>
-    ensures { Bound (number d) mask (value_told x) (reason_told x) (value_told result) (reason_told result) }
+// A quantifier over the mask that the value d decides: EXISTS by 2, FORALL by 1.
+pub fn bound(d: u8, mask: u64, x: Known) -> Known
+    ensures { Bound d mask x.value x.reason result.value result.reason }
 {
-    let known = x?;
-    if known.truth == d {
-        return Some(Known {
-            reason: known.reason.without(mask),
-            ..known
-        });
+    if x.value == d {
+        return Known {
+            value: d,
+            reason: x.reason.without(mask),
+        };
     }
-    if known.reason & mask == 0 {
+    if x.value == 0 {
         return x;
     }
-    None
+    if x.reason & mask == 0 {
+        return x;
+    }
+    Known {
+        value: 0,
+        reason: 0,
+    }
 }
 
-// What is known of node k, from what is known of the nodes that it names.
-fn judge_node(net: &[u64], k: usize, cube: Cube64, cells: &[u64]) -> Option<Known>
+// What is known of node k, from what is known of the nodes that it names. This and `judge_vacant` are the innermost work of a search, and no calls.
+#[inline(always)]
+fn judge_node(net: &[u64], k: usize, cube: Cube64, cells: &[u64]) -> Known
     requires { Ground net.now × HasNode net.now k × Judged net.now cube.mask cube.values cells.now }
-    ensures { Right net.now cube.mask cube.values k (value_told result) (reason_told result) }
+    ensures { Right net.now cube.mask cube.values k result.value result.reason }
 {
     let node = node_at(net, k);
     match node.op {
         Op::False | Op::True | Op::Input => leaf(node.op, node.left, cube),
         Op::Not => negated(known_at(cells, node.left)),
-        Op::And => joined(
-            false,
-            known_at(cells, node.left),
-            known_at(cells, node.right),
-        ),
-        Op::Or => joined(
-            true,
+        Op::And | Op::Or => joined(
+            gate_decided(node.op),
             known_at(cells, node.left),
             known_at(cells, node.right),
         ),
@@ -123,10 +140,10 @@ fn judge_node(net: &[u64], k: usize, cube: Cube64, cells: &[u64]) -> Option<Know
     }
 }
 
-// Node k is set to a truth that is right, where nothing is known of it yet. The answer is the chain's new head.
+// Node k is set to a value that is right, where nothing is known of it yet. The answer is the chain's new head.
 pub fn keep(cells: &mut [u64], k: usize, known: Known, head: u16) -> u16
-    requires { HasCell cells.old k × (k < 65535) }
-    ensures { (net : List ℕ) (m w : ℕ) → Judged net m w cells.old → Right net m w k (number known.truth) known.reason → Judging net m w cells.old head cells.new result }
+    requires { HasCell cells.old k × (k < 65535) × (0 < known.value) × (known.value < 3) }
+    ensures { (net : List ℕ) (m w : ℕ) → Judged net m w cells.old → Right net m w k known.value known.reason → Judging net m w cells.old head cells.new result }
 {
     if cells::vacant(&cells[..], k) {
         return cells::put(cells, k, known, head);
@@ -135,14 +152,16 @@ pub fn keep(cells: &mut [u64], k: usize, known: Known, head: u16) -> u16
 }
 
 // Node k, of which nothing is known, is judged.
+#[inline(always)]
 fn judge_vacant(net: &[u64], k: usize, cube: Cube64, cells: &mut [u64], head: u16) -> u16
     requires { Ground net.now × HasNode net.now k × Judged net.now cube.mask cube.values cells.old × Vacant cells.old k }
     ensures { Judging net.now cube.mask cube.values cells.old head cells.new result }
 {
-    match judge_node(net, k, cube, &cells[..]) {
-        Some(known) => cells::put(cells, k, known, head),
-        None => head,
+    let known = judge_node(net, k, cube, &cells[..]);
+    if known.value == 0 {
+        return head;
     }
+    cells::put(cells, k, known, head)
 }
 
 // Node k is judged where nothing is known of it yet.
@@ -162,7 +181,7 @@ fn judge_all(net: &[u64], a: usize, cube: Cube64, cells: &mut [u64], head: u16) 
     ensures { Judging net.now cube.mask cube.values cells.old head cells.new result }
 {
     let mut at = head;
-    for k in 0..=a {
+    for k in 0..a + 1 {
         if cells::vacant(&cells[..], k) {
             at = judge_vacant(net, k, cube, cells, at);
         }

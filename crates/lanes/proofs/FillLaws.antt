@@ -1,6 +1,6 @@
 -- How a node's row follows from those of the nodes that it names, and how variables get positions. Assumes nothing.
 use Rattle.std.specs.Prelude.{ℕ, zero, suc, ◌+◌, ◌*◌, ◌≤◌, ◌<◌, ◌≡◌, refl, Bool, true, false, not, List, eqb, ltb, length, get_or, set, replicate}
-use Rattle.std.proofs.Common.{arith, sym, ◌∙◌, ap, inl, inr, eqb-true, lt-ltb, le-ltb}
+use Rattle.std.proofs.Common.{arith, sym, ◌∙◌, ap, subst, inl, inr, eqb-true, lt-ltb, le-ltb}
 use Rattle.std.proofs.Math.ListN.{length-set}
 use Rattle.std.proofs.Math.Seq.{get_or-set_same, get_or-set_other}
 use Rattle.std.specs.Int.Bits.{bit_and, bit_or}
@@ -12,10 +12,9 @@ use Rattle.formula.specs.Formula.{Formula, input, neg, gate}
 use Rattle.formula.specs.Reason.{Explains}
 use Rattle.formula.proofs.Reason.{explains_neg}
 use Rattle.formula.proofs.ReasonWord.{word-never, word-input}
-use Rattle.net.specs.Layout.{formula_at, Ground, Is, val, number, val_number, number-some, f_fixed, f-true, f-reads, f_flips, f-joins, is_flips, is-joins, is-binds}
+use Rattle.net.specs.Layout.{formula_at, Ground, Is, val, f_fixed, f-true, f-reads, f_flips, f-joins, is_flips, is-joins, is-binds}
 use Rattle.judge.specs.Cells.{value_of, reason_of}
 use Rattle.judge.specs.Judge.{Judged}
-use Rattle.judge.specs.JudgeLaws.{judged-at}
 use Rattle.lanes.specs.Lanes.{Positions, place, Says, ones, Flipped, Joint}
 use Rattle.lanes.proofs.LanesLaws.{bit-all, joint_and, joint_or, says_known, says_nothing, says_neg, says_lane_input, says_left, says_right, says_both}
 use Rattle.lanes.specs.Marks.{marked, Marked, Founded, Closed}
@@ -75,10 +74,11 @@ module _ {f g : Formula} {ps : List ℕ} {w z o t z' o' t' a b c : ℕ} (R : Row
 pub row_at : {net ps rows : List ℕ} {w k z o t : ℕ} → RowAt net ps w rows k → RowWords rows k z o t → Row (formula_at net k) ps w z o t
 row_at A r = rw (r.word, r.zero, r.one) A.row
 
--- a truth that is known
-pub row_known : {net cells ps : List ℕ} {m w r z o t : ℕ} {b : Bool} → Judged net m w cells → (k : ℕ) → number b ≡ value_of cells k → (0 < number b → r ≡ reason_of cells k)
-    → Constant b r z o t → Row (formula_at net k) ps w z o t
-row_known {b = b} J k e i C = constant_row b (rw (val_number b) at (judged-at J e i (number-some b)).explains) C
+-- a value that is known
+pub row_known : {net cells ps : List ℕ} {m w v r z o t : ℕ} (k : ℕ) → Judged net m w cells → v ≡ value_of cells k → r ≡ reason_of cells k → 0 < v
+    → Constant (val v) r z o t → Row (formula_at net k) ps w z o t
+row_known {net} {w = w} {v = v} {r = r} k K e i h C =
+    constant_row (val v) (subst (λ (y : ℕ). Explains (formula_at net k) (val y) (bit r) (bit w)) (sym e) (rw i (K.each k (rw (sym e) h)).explains)) C
 
 module _ {net : List ℕ} {k op left right mask : ℕ} (G : Ground net) (I : Is net k op left right mask) where
   pub row_fixed : {ps : List ℕ} {w z o t : ℕ} {b : Bool} → op < 2 → b ≡ eqb op 1 → Constant b 0 z o t → Row (formula_at net k) ps w z o t

@@ -186,15 +186,18 @@ fn row_of(net: &[u64], k: usize, w: u64, places: &[u8; 64], rows: &[u64]) -> Row
     }
 }
 
-// Node k's row is stored: the same in every lane where its truth is known.
+// Node k's row is stored: the same in every lane where its value is known.
 fn next(net: &[u64], k: usize, cube: Cube64, places: &[u8; 64], cells: &[u64], rows: &mut [u64])
     requires { Ground net.now × HasNode net.now k × HasRow rows.old k × Judged net.now cube.mask cube.values cells.now × Ripe net.now cells.now places.now cube.values rows.old k }
     ensures { Added net.now places.now cube.values k rows.old rows.new }
 {
-    let row = match known_at(cells, k) {
-        Some(known) => constant(known.truth, known.reason),
-        None => row_of(net, k, cube.values, places, &rows[..]),
-    };
+    let known = known_at(cells, k);
+    if known.value != 0 {
+        let row = constant(known.value == 2, known.reason);
+        keep(rows, k, row);
+        return;
+    }
+    let row = row_of(net, k, cube.values, places, &rows[..]);
     keep(rows, k, row);
 }
 

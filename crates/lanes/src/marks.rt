@@ -30,7 +30,7 @@ fn spread(net: &[u64], k: usize, cells: &[u64], marks: &mut [u64]) -> Option<u64
     requires { Ground net.now × HasNode net.now k × (length net.now ≤ 67 + length cells.now) × (k < 64 * length marks.old) }
     ensures { OnSome result (Raised k marks.old marks.new × Spread net.now cells.now marks.new k) }
 {
-    if known_at(cells, k).is_some() {
+    if known_at(cells, k).value != 0 {
         return Some(0);
     }
     let node = node_at(net, k);

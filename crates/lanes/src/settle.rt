@@ -2,7 +2,6 @@
 ghost use Rattle.std.specs.Prelude.{◌≡◌, ℕ, ◌*◌, ◌<◌, ◌≤◌, length, IfSome};
 ghost use Rattle.words.specs.Mask.{Apart};
 ghost use Rattle.formula.specs.Formula.{Formula};
-ghost use Rattle.net.specs.Layout.{number};
 ghost use Rattle.imply.specs.Posed.{Posed, Searched, Solved};
 ghost use Rattle.lanes.specs.Fill as Fill;
 ghost use Rattle.lanes.specs.Fill.{HasRows, Seated};
@@ -85,10 +84,11 @@ fn narrow(start: State, places: &[u8; 64]) -> State
 }
 
 // The search for the target from the start.
-fn aim(target: bool, loose: u64, w: u64, row: Row) -> State
-    ensures { (result.rest ≡ loose) × (result.word ≡ w) × Aimed (number target) row.zero row.one row.word result.reason result.other result.hits }
+fn aim(target: u8, loose: u64, w: u64, row: Row) -> State
+    requires { (0 < target) × (target < 3) }
+    ensures { (result.rest ≡ loose) × (result.word ≡ w) × Aimed target row.zero row.one row.word result.reason result.other result.hits }
 {
-    if target {
+    if target == 2 {
         return State {
             rest: loose,
             word: w,
@@ -109,15 +109,15 @@ fn aim(target: bool, loose: u64, w: u64, row: Row) -> State
 
 // What a row says of the search. `lanes` are the variables that have a position.
 fn settle(
-    target: bool,
+    target: u8,
     loose: u64,
     lanes: u64,
     w: u64,
     row: Row,
     places: &[u8; 64],
 ) -> Option<Settled>
-    requires { Apart w loose × Seated places.now lanes 0 }
-    ensures { (f : Formula) (free : ℕ) → Fill.Row f places.now w row.zero row.one row.word → IfSome result (λ s. Searched f free (number target) loose w s.found s.word s.reason) }
+    requires { (0 < target) × (target < 3) × Apart w loose × Seated places.now lanes 0 }
+    ensures { (f : Formula) (free : ℕ) → Fill.Row f places.now w row.zero row.one row.word → IfSome result (λ s. Searched f free target loose w s.found s.word s.reason) }
 {
     if (row.zero | row.one) & (lanes | loose) > 0 {
         return None;
@@ -163,15 +163,15 @@ fn seat(mask: u64, places: &mut [u8; 64])
 fn solve_marked(
     net: &[u64],
     a: usize,
-    target: bool,
+    target: u8,
     loose: u64,
     cube: Cube64,
     cells: &[u64],
     rows: &mut [u64],
     marks: &mut [u64],
 ) -> Option<Settled>
-    requires { Posed net.now a (number target) loose cube.mask cube.values cells.now × HasRows net.now rows.old × (a < 64 * length marks.old) }
-    ensures { IfSome result (λ s. Solved net.now a (number target) loose cube.values s.found s.word s.reason) × (length rows.new ≡ length rows.old) }
+    requires { Posed net.now a target loose cube.mask cube.values cells.now × HasRows net.now rows.old × (a < 64 * length marks.old) }
+    ensures { IfSome result (λ s. Solved net.now a target loose cube.values s.found s.word s.reason) × (length rows.new ≡ length rows.old) }
 {
     let lanes = marks::live(net, a, cells, marks)?;
     if lanes.count_ones() > POSITIONS {
@@ -188,14 +188,14 @@ fn solve_marked(
 fn solve_sized<const WORDS: usize>(
     net: &[u64],
     a: usize,
-    target: bool,
+    target: u8,
     loose: u64,
     cube: Cube64,
     cells: &[u64],
     rows: &mut [u64],
 ) -> Option<Settled>
-    requires { Posed net.now a (number target) loose cube.mask cube.values cells.now × HasRows net.now rows.old × (a < 64 * WORDS) × (WORDS ≤ 64) }
-    ensures { IfSome result (λ s. Solved net.now a (number target) loose cube.values s.found s.word s.reason) × (length rows.new ≡ length rows.old) }
+    requires { Posed net.now a target loose cube.mask cube.values cells.now × HasRows net.now rows.old × (a < 64 * WORDS) × (WORDS ≤ 64) }
+    ensures { IfSome result (λ s. Solved net.now a target loose cube.values s.found s.word s.reason) × (length rows.new ≡ length rows.old) }
 {
     let mut marks = [0u64; WORDS];
     solve_marked(net, a, target, loose, cube, cells, rows, &mut marks)
@@ -206,14 +206,14 @@ fn solve_sized<const WORDS: usize>(
 pub fn solve(
     net: &[u64],
     a: usize,
-    target: bool,
+    target: u8,
     loose: u64,
     cube: Cube64,
     cells: &[u64],
     rows: &mut [u64],
 ) -> Option<Settled>
-    requires { Posed net.now a (number target) loose cube.mask cube.values cells.now × HasRows net.now rows.old }
-    ensures { IfSome result (λ s. Solved net.now a (number target) loose cube.values s.found s.word s.reason) × (length rows.new ≡ length rows.old) }
+    requires { Posed net.now a target loose cube.mask cube.values cells.now × HasRows net.now rows.old }
+    ensures { IfSome result (λ s. Solved net.now a target loose cube.values s.found s.word s.reason) × (length rows.new ≡ length rows.old) }
 {
     if loose.count_ones() > POSITIONS {
         return None;

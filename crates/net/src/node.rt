@@ -5,10 +5,10 @@
 //   3 to 66    for each variable the last node that reads it (links.rt)
 //   67 + 2k    node k: three bits of op, whether it is changed, twelve of left, twelve of right, and three links of twelve bits (links.rt)
 //   68 + 2k    its mask
-ghost use Rattle.std.specs.Prelude.{◌≡◌, ℕ, ◌+◌, ◌*◌, ◌%◌, ◌<◌, ◌≤◌, true, false, length, set};
+ghost use Rattle.std.specs.Prelude.{◌≡◌, ℕ, ◌+◌, ◌-◌, ◌*◌, ◌%◌, ◌<◌, ◌≤◌, true, false, length, set};
 ghost use Rattle.net.specs.Op.{code_of};
 ghost use Rattle.net.specs.Net.{node_of};
-ghost use Rattle.net.specs.Layout.{net_form, frames_of, free_of, gauges_of, first_word, second_word, HasNode, unpack, changed, Is, number, decides};
+ghost use Rattle.net.specs.Layout.{net_form, frames_of, free_of, gauges_of, first_word, second_word, HasNode, unpack, changed, Is, decides};
 
 use form::Form;
 
@@ -123,12 +123,20 @@ pub fn changed(net: &[u64], k: usize) -> bool
     net[NODES + 2 * k] % 16 > 7
 }
 
-// The truth that decides a quantifier: true an EXISTS, false a FORALL.
+// The value that decides a quantifier: 2, true, an EXISTS, 1, false, a FORALL.
 #[tactic(auto, unfolding(crate::specs::Layout::decides))]
-pub fn decided(op: Op) -> bool
-    ensures { number result ≡ decides (code_of op) }
+pub fn decided(op: Op) -> u8
+    ensures { result ≡ decides (code_of op) }
 {
-    op == Op::Exists
+    if op == Op::Exists { 2 } else { 1 }
+}
+
+// The value that decides a gate: 1 an AND, 2 an OR.
+pub fn gate_decided(op: Op) -> u8
+    requires { (4 ≤ code_of op) × (code_of op < 6) }
+    ensures { result ≡ code_of op - 3 }
+{
+    if op == Op::Or { 2 } else { 1 }
 }
 
 // The first word of a node that is not changed, without links.

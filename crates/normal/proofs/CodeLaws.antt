@@ -1,6 +1,6 @@
 -- Steps of the code, from what it tests and calls to what it says: a frame sought behind those that it names, and a frame placed. Assumes nothing.
 use Rattle.std.specs.Prelude.{ℕ, ◌+◌, ◌-◌, ◌≤◌, ◌<◌, ◌≡◌, ◌≢◌, List, length, get_or, set, take, ltb}
-use Rattle.std.proofs.Common.{arith, sym, ap, ◌∙◌, length-take-le, lt-ltb, le-ltb}
+use Rattle.std.proofs.Common.{arith, sym, ap, ◌∙◌, subst, length-take-le, lt-ltb, le-ltb}
 use Rattle.std.specs.List.{AllWithin, HoldsAt, between}
 use Rattle.std.proofs.lemmas.List.Edits.{get_or-between, length-between}
 use Rattle.std.proofs.lemmas.List.{get_or-take}
@@ -9,7 +9,28 @@ use Rattle.words.proofs.Logic.{by_bool}
 use Rattle.sheet.specs.declared.Kind.{Kind}
 use Rattle.sheet.specs.declared.Kind.TheVariants.{Never}
 use Rattle.normal.specs.Lists.{kind_at}
-use Rattle.normal.specs.Visit.{first_place, Behind, Puts}
+use Rattle.normal.specs.Visit.{Found, first_place, Behind, Puts}
+
+-- ---- a frame sought among frames: none of the first i is d
+
+pub seek_start : (ks : List Kind) (d : Kind) → Found ks 0 d 0
+seek_start ks d = record { within = omega arith; hit = λ h. absurd (omega arith); miss = λ j h. absurd (omega arith) }
+
+pub seek_next : {ks : List Kind} {d : Kind} {i : ℕ} → Found ks i d i → (kind_at ks i ≡ d → ⊥) → Found ks (i + 1) d (i + 1)
+seek_next {ks} {d} {i} F m = record {
+  within = omega arith;
+  hit = λ h. absurd (omega arith);
+  miss = λ j h e. by_bool (ltb j i) (λ t. F.miss j (omega (tests, t)) e)
+      (λ t. let q : j ≡ i = omega (tests, t, h) in m (sym (ap (λ (k : ℕ). kind_at ks k) q) ∙ e));
+}
+
+pub seek_here : {ks : List Kind} {n : ℕ} {d : Kind} {i : ℕ} → Found ks i d i → i < n → kind_at ks i ≡ d → Found ks n d i
+seek_here F h e = record { within = omega arith; hit = λ g. e; miss = F.miss }
+
+pub seek-end : {ks : List Kind} {n : ℕ} {d : Kind} {i : ℕ} → Found ks i d i → i ≤ n → n ≤ i → Found ks n d n
+seek-end {ks} {n} {d} {i} F h g = subst (λ (k : ℕ). Found ks k d k) (omega (arith, h, g)) F
+
+-- ---- behind the frames that it names, and placed
 
 module _ (ks : List Kind) (n first : ℕ) (H : first ≤ n) (R : n ≤ length ks) where
   -- those of the n frames that are behind the first places

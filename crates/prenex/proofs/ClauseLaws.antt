@@ -153,6 +153,17 @@ module _ (f : Literal → ℕ) where
 -- ---- the loop over the codes of clauses
 
 module _ {l : List ℕ} {f : Literal → ℕ} {n₀ : ℕ} {out₀ ends₀ : List ℕ} where
+  pub going_start : Going l f n₀ out₀ ends₀ out₀ ends₀ n₀ 0 0 true 0
+  going_start = record {
+    within = omega arith;
+    more = λ e. clash true refl e;
+    frames-few = omega arith;
+    ends-few = omega arith;
+    near = omega arith;
+    kinds = record { frames_are = refl; bytes_are = refl };
+    numbers = record { count-is = omega arith; numbers_are = refl };
+  }
+
   module _ {out ends : List ℕ} {n k a : ℕ} {first : Bool} {i : ℕ} (g : Going l f n₀ out₀ ends₀ out ends n k a first i) where
     -- a clause without a literal ends
     pub going_none : i < length l → get_or l i 0 ≡ 0 → first ≡ true → Going l f n₀ out₀ ends₀ out ends n k a true (i + 1)
@@ -279,6 +290,16 @@ module _ (l : List ℕ) (i n : ℕ) where
   none_left first a h = rw (drop_of_length-le l h) (by_bool first (λ e. rw e) (λ e. rw e))
 
 module _ {l : List ℕ} {n₀ : ℕ} {out₀ : List ℕ} where
+  pub joining_start : Members n₀ l → Joining l n₀ out₀ out₀ n₀ 0 true 0
+  joining_start m = record {
+    members = m;
+    within = omega arith;
+    frames-some = omega arith;
+    frames-few = omega arith;
+    near = omega arith;
+    kinds = record { frames_are = refl; bytes_are = refl };
+  }
+
   module _ {out : List ℕ} {n a : ℕ} {first : Bool} {i : ℕ} (g : Joining l n₀ out₀ out n a first i) where
     pub joining_first : {member : ℕ} → i < length l → first ≡ true → member ≡ get_or l i 0 → Joining l n₀ out₀ out n member false (i + 1)
     joining_first h e m = record {

@@ -139,6 +139,9 @@ module _ (p : ℕ → Bool) (f : ℕ → Kind) (start : ℕ) (all : List ℕ) wh
     pub counted : start + count p 0 variables ≡ n + count p x (variables - x)
     pub stored : sets all (start * 4) (sheet_bytes (map f (having p 0 variables))) ≡ sets out (n * 4) (sheet_bytes (map f (having p x (variables - x))))
 
+  pub stored-start : Stored 0 start all
+  stored-start = record { few = omega arith; counted = refl; stored = refl }
+
   module _ (x n : ℕ) (out : List ℕ) (s : Stored x n out) where
     pub stored-end : variables ≤ x → (n ≡ start + count p 0 variables) × (out ≡ sets all (start * 4) (sheet_bytes (map f (having p 0 variables))))
     stored-end h =

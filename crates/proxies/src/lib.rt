@@ -6,17 +6,13 @@ ghost use Rattle.std.specs.Prelude.{◌≡◌, false, List, ℕ, ◌%◌, ◌<�
 ghost use Rattle.words.specs.Word.{bit};
 ghost use Rattle.formula.specs.Reason.{Explains};
 ghost use Rattle.form.specs.Form.{record_start, word_end};
-ghost use Rattle.net.specs.Op.{code_of};
-ghost use Rattle.net.specs.Layout.{Ground, net_form, frames_of, changed, formula_at, val, number};
-ghost use Rattle.judge.specs.Told.{value_told, reason_told};
+ghost use Rattle.net.specs.Layout.{Ground, net_form, frames_of, changed, decides, formula_at, val};
 ghost use Rattle.proxies.specs.Growing.{Growing};
 ghost use Rattle.proxies.specs.Kept as Kept;
 ghost use Rattle.proxies.specs.Kept.{Recorded, RecordedNode, Noted, Shown};
 
 use form::Form;
 use judge::Known;
-use net::Node;
-use net::node::decided;
 use records::Counts;
 use words::Word;
 
@@ -48,26 +44,25 @@ fn recorded_frame(
     under: &[u32],
     over: &[u32],
     kept: Counts,
-) -> Option<Known>
+) -> Known
     requires { (frame < 4096) × (record_start form kept.under ≤ length under.now) × (record_start form kept.over ≤ length over.now) }
-    ensures { Recorded form frame word under.now kept.under over.now kept.over (value_told result) (reason_told result) }
+    ensures { Recorded form frame word under.now kept.under over.now kept.over result.value result.reason }
 {
     let setting = low(form, word);
     let every = all(form);
     let frame = frame as u32;
     if let Some(j) = records::search(under, form, kept.under, frame, every, setting) {
         let reason = records::mask_of(under, form, j);
-        return Some(Known {
-            truth: true,
-            reason,
-        });
+        return Known { value: 2, reason };
     }
-    let j = records::search(over, form, kept.over, frame, every, setting)?;
-    let reason = records::mask_of(over, form, j);
-    Some(Known {
-        truth: false,
-        reason,
-    })
+    if let Some(j) = records::search(over, form, kept.over, frame, every, setting) {
+        let reason = records::mask_of(over, form, j);
+        return Known { value: 1, reason };
+    }
+    Known {
+        value: 0,
+        reason: 0,
+    }
 }
 
 // The same of node i. Records are of frames: of a quantifier behind them, a question's, there is none, and none is used of a node that is changed.
@@ -78,31 +73,36 @@ pub fn recorded(
     under: &[u32],
     over: &[u32],
     kept: Counts,
-) -> Option<Known>
+) -> Known
     requires { Ground net.now × (record_start (net_form net.now) kept.under ≤ length under.now) × (record_start (net_form net.now) kept.over ≤ length over.now) }
-    ensures { RecordedNode net.now i word under.now kept.under over.now kept.over (value_told result) (reason_told result) }
+    ensures { RecordedNode net.now i word under.now kept.under over.now kept.over result.value result.reason }
 {
     if i < net::frames(net) && !net::changed(net, i) {
         return recorded_frame(net::form(net), i, word, under, over, kept);
     }
-    None
+    Known {
+        value: 0,
+        reason: 0,
+    }
 }
 
-// What the search of its body shows of a quantifier.
-pub fn body_shows(node: Node, found: bool, reason: u64) -> Known
-    ensures { Shown (code_of node.op) node.mask found reason (number result.truth) result.reason }
+// What the search of its body shows of a quantifier over the mask that the value d decides.
+pub fn body_shows(d: u8, mask: u64, found: bool, reason: u64) -> Known
+    ensures { (op : ℕ) → d ≡ decides op → Shown op mask found reason result.value result.reason }
 {
-    let d = decided(node.op);
     if found {
         return Known {
-            truth: d,
-            reason: reason.without(node.mask),
+            value: d,
+            reason: reason.without(mask),
         };
     }
-    Known { truth: !d, reason }
+    if d == 2 {
+        return Known { value: 1, reason };
+    }
+    Known { value: 2, reason }
 }
 
-// Keeps that the frame has the truth wherever the variables of the reason are as in the word: source 000's update of U (MBU) or of O (MBO).
+// Keeps that the frame has the value wherever the variables of the reason are as in the word: source 000's update of U (MBU) or of O (MBO).
 fn note_frame(
     form: Form,
     frame: usize,
@@ -112,12 +112,12 @@ fn note_frame(
     over: &mut [u32],
     kept: Counts,
 ) -> Counts
-    requires { (frame < 4096) × (record_start form kept.under ≤ length under.old) × (record_start form kept.over ≤ length over.old) }
-    ensures { (net : List ℕ) → Ground net → form ≡ net_form net → frame < frames_of net → changed net frame ≡ false → Explains (formula_at net frame) (val (number known.truth)) (bit known.reason) (bit word) → Growing net under.old kept.under over.old kept.over under.new result.under over.new result.over × Noted (net_form net) frame (number known.truth) word under.new result.under over.new result.over }
+    requires { (frame < 4096) × (record_start form kept.under ≤ length under.old) × (record_start form kept.over ≤ length over.old) × (0 < known.value) × (known.value < 3) }
+    ensures { (net : List ℕ) → Ground net → form ≡ net_form net → frame < frames_of net → changed net frame ≡ false → Explains (formula_at net frame) (val known.value) (bit known.reason) (bit word) → Growing net under.old kept.under over.old kept.over under.new result.under over.new result.over × Noted (net_form net) frame known.value word under.new result.under over.new result.over }
 {
     let mask = low(form, known.reason);
     let values = low(form, word & known.reason);
-    if known.truth {
+    if known.value == 2 {
         let n = records::put(under, form, kept.under, frame as u32, mask, values);
         return Counts { under: n, ..kept };
     }
@@ -135,8 +135,8 @@ pub fn note(
     over: &mut [u32],
     kept: Counts,
 ) -> Counts
-    requires { Ground net.now × (record_start (net_form net.now) kept.under ≤ length under.old) × (record_start (net_form net.now) kept.over ≤ length over.old) }
-    ensures { Explains (formula_at net.now i) (val (number known.truth)) (bit known.reason) (bit word) → Growing net.now under.old kept.under over.old kept.over under.new result.under over.new result.over × (i < frames_of net.now → changed net.now i ≡ false → Noted (net_form net.now) i (number known.truth) word under.new result.under over.new result.over) }
+    requires { Ground net.now × (record_start (net_form net.now) kept.under ≤ length under.old) × (record_start (net_form net.now) kept.over ≤ length over.old) × (0 < known.value) × (known.value < 3) }
+    ensures { Explains (formula_at net.now i) (val known.value) (bit known.reason) (bit word) → Growing net.now under.old kept.under over.old kept.over under.new result.under over.new result.over × (i < frames_of net.now → changed net.now i ≡ false → Noted (net_form net.now) i known.value word under.new result.under over.new result.over) }
 {
     if i >= net::frames(net) || net::changed(net, i) {
         return kept;

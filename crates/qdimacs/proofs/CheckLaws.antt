@@ -1,8 +1,9 @@
 -- A text is well formed exactly if its fields have the shape and its atoms are proper: the laws that `check` goes by. Assumes nothing.
-use Rattle.std.specs.Prelude.{ℕ, ◌≤◌, true, false, List, ◌≡◌, length, drop}
-use Rattle.std.proofs.Common.{sym, ap, ◌∙◌}
+use Rattle.std.specs.Prelude.{ℕ, ◌≤◌, true, false, List, [], ◌∷◌, ◌≡◌, length, drop}
+use Rattle.std.proofs.Common.{arith, sym, ap, ◌∙◌}
 use Rattle.words.proofs.Logic.{clash}
-use Rattle.prenex.specs.Question.{Question}
+use Rattle.prenex.specs.Question.{Question, Literal, Clause, Proper, Every, every_one, SomeBelow}
+use Rattle.prenex.proofs.Every.{every_first}
 use Rattle.dimacs.specs.Token.{behind_comments, tokens}
 use Rattle.dimacs.specs.Page.{page, Written, WellFormed}
 use Rattle.dimacs.specs.Shape.{start, run, whole}
@@ -10,6 +11,15 @@ use Rattle.dimacs.proofs.ShapeLaws.{proper_shaped, page-whole, whole-page}
 use Rattle.dimacs.specs.Row.{header, proper_atoms}
 use Rattle.dimacs.proofs.RowLaws.{atoms-proper, proper-atoms}
 use Rattle.qdimacs.specs.Reading.{HeaderOf}
+
+-- a question has a variable
+some-literal : {n : ℕ} (cs : List Clause) → 1 ≤ length cs → Every (SomeBelow (λ (l : Literal). l.variable) n) cs → 1 ≤ n
+some-literal [] h w = absurd (omega arith)
+some-literal ([] ∷ cs) h (every_one s t) = absurd (omega (arith, s.some))
+some-literal ((l ∷ c) ∷ cs) h (every_one s t) = omega (arith, every_first s.below)
+
+pub some-variable : {q : Question} → Proper q → 1 ≤ q.variables
+some-variable {q} p = some-literal q.clauses p.some-clause p.clauses-below
 
 module _ (text : List ℕ) (at : ℕ) (place : drop at text ≡ behind_comments false text) where
   here : {q : Question} → Written q text → tokens (drop at text) ≡ page q

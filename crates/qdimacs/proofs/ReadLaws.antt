@@ -33,7 +33,7 @@ module _ {q : Question} {frames frames' : List ℕ} {n : ℕ} (b : BuiltAll q fr
   unfolding sheet_of
   built_few = omega (arith, b.size, sheet-length (kinds q), b.few)
 
-  built_taken : take n frames' ≡ sheet_of q
+  pub built_taken : take n frames' ≡ sheet_of q
   built_taken = ap (take n) b.bytes ∙ take_at (sheet_of q) (drop (length (sheet_of q)) frames) n (sym b.size)
 
 -- ---- what reading gives

@@ -106,7 +106,8 @@ fn run_lines(
     session
 }
 
-// A run with room for a net of N words.
+// A run with room for a net of N words. It is a call of its own, so that a narrow sheet's takes no stack for the net of a wide one.
+#[inline(never)]
 fn run_sized<const N: usize>(
     sheet: &[u8],
     form: Form,

@@ -1,10 +1,10 @@
 // The functions that call each other on falling node numbers. Source 000's subtreeIsSolved is `choose` with `extend`, `settle`, `push`, `branch` and
 // `candidate`; its solutionForallChildren is `check` with `evaluate`, `gate` and `quantified`.
-ghost use Rattle.std.specs.Prelude.{◌≡◌, true, false, ◌+◌, ◌-◌, ◌^◌, ◌<◌, ◌≤◌};
+ghost use Rattle.std.specs.Prelude.{◌≡◌, true, false, ℕ, ◌+◌, ◌-◌, ◌^◌, ◌<◌, ◌≤◌};
 ghost use Rattle.words.specs.Word.{bit};
 ghost use Rattle.words.specs.Mask as Mask;
 ghost use Rattle.net.specs.Op.{code_of};
-ghost use Rattle.net.specs.Layout.{net_form, frames_of, changed, Is, decides, val, number};
+ghost use Rattle.net.specs.Layout.{net_form, frames_of, changed, Is, decides, val};
 ghost use Rattle.judge.specs.Judge.{Judging};
 ghost use Rattle.proxies.specs.Growing.{Growing};
 ghost use Rattle.proxies.specs.Kept.{Noted};
@@ -13,7 +13,7 @@ ghost use Rattle.search.specs.Search.{Posed, Solved, Checked, Told, Leaf, Lent};
 use cube::Cube64;
 use implicant::implicant;
 use judge::{Known, cells, forward, known_at};
-use net::node::decided;
+use net::node::{decided, gate_decided};
 use net::{Node, Op, node_at};
 use phase::one_first;
 use proxies::{body_shows, note, recorded};
@@ -29,7 +29,7 @@ pub struct Outcome {
     pub kept: Counts,
 }
 
-// What is known of a node under a full candidate, the chain's head, and how many records each table then holds.
+// A node's value under a full candidate and its reason, the chain's head, and how many records each table then holds.
 #[derive(Clone, Copy)]
 struct Valued {
     known: Known,
@@ -37,14 +37,16 @@ struct Valued {
     kept: Counts,
 }
 
-// Can the variables of the quantifier i be assigned, over the cube, so that its body has the truth that decides it? Candidates with free variables are tried in the
+// Can the variables of the quantifier i, which are the mask, be assigned, over the cube, so that its body has the value d that decides it? Candidates with free variables are tried in the
 // order of their words, others by the phases of their variables. `fresh` are the variables fixed since the cells were judged. What is found is explained
 // once more, by fewer of the variables outside.
 #[cycle(branch_candidate_check_choose_evaluate_extend_gate_push_quantified_settle)]
 pub fn choose(
     net: &[u64],
     i: usize,
-    node: Node,
+    body: usize,
+    d: u8,
+    mask: u64,
     cube: Cube64,
     fresh: u64,
     cells: &mut [u64],
@@ -53,19 +55,18 @@ pub fn choose(
     over: &mut [u32],
     kept: Counts,
 ) -> Outcome
-    requires is { Is net.now i (code_of node.op) node.left node.right node.mask × (6 ≤ code_of node.op) }
+    requires is { (op right : ℕ) × Is net.now i op body right mask × (6 ≤ op) × (d ≡ decides op) }
     requires checked { Checked net.now i cube.mask cube.values cells.old }
     requires lent { Lent net.now wants.old under.old kept.under over.old kept.over }
-    ensures solved { Solved net.now node.left (decides (code_of node.op)) node.mask (Mask.without cube.values node.mask) result.found result.word result.reason × (cells.new ≡ cells.old) }
+    ensures solved { Solved net.now body d mask (Mask.without cube.values mask) result.found result.word result.reason × (cells.new ≡ cells.old) }
     ensures growing { Growing net.now under.old kept.under over.old kept.over under.new result.kept.under over.new result.kept.over }
 {
-    let inner = cube.free_all(node.mask);
-    let d = decided(node.op);
+    let inner = cube.free_all(mask);
     let out = extend(
-        net, node.left, d, node.mask, inner, fresh, cells, wants, under, over, kept,
+        net, body, d, mask, inner, fresh, cells, wants, under, over, kept,
     );
     if out.found {
-        let why = implicant(net, node.left, d, out.word, out.reason, node.mask, wants);
+        let why = implicant(net, body, d, out.word, out.reason, mask, wants);
         return Outcome { reason: why, ..out };
     }
     out
@@ -95,7 +96,7 @@ fn begin(fresh: u64, loose: u64) -> u64 {
 fn extend(
     net: &[u64],
     a: usize,
-    target: bool,
+    target: u8,
     loose: u64,
     cube: Cube64,
     fresh: u64,
@@ -105,9 +106,9 @@ fn extend(
     over: &mut [u32],
     kept: Counts,
 ) -> Outcome
-    requires posed { Posed net.now a (number target) loose cube.mask cube.values cells.old }
+    requires posed { Posed net.now a target loose cube.mask cube.values cells.old }
     requires lent { Lent net.now wants.old under.old kept.under over.old kept.over }
-    ensures solved { Solved net.now a (number target) loose cube.values result.found result.word result.reason × (cells.new ≡ cells.old) }
+    ensures solved { Solved net.now a target loose cube.values result.found result.word result.reason × (cells.new ≡ cells.old) }
     ensures growing { Growing net.now under.old kept.under over.old kept.over under.new result.kept.under over.new result.kept.over }
 {
     let touched = begin(fresh, loose);
@@ -122,7 +123,7 @@ fn extend(
 fn settle(
     net: &[u64],
     a: usize,
-    target: bool,
+    target: u8,
     loose: u64,
     cube: Cube64,
     cells: &mut [u64],
@@ -131,12 +132,13 @@ fn settle(
     over: &mut [u32],
     kept: Counts,
 ) -> Outcome
-    requires posed { Posed net.now a (number target) loose cube.mask cube.values cells.old }
+    requires posed { Posed net.now a target loose cube.mask cube.values cells.old }
     requires lent { Lent net.now wants.old under.old kept.under over.old kept.over }
-    ensures solved { Solved net.now a (number target) loose cube.values result.found result.word result.reason × (cells.new ≡ cells.old) }
+    ensures solved { Solved net.now a target loose cube.values result.found result.word result.reason × (cells.new ≡ cells.old) }
     ensures growing { Growing net.now under.old kept.under over.old kept.over under.new result.kept.under over.new result.kept.over }
 {
-    if let Some(known) = known_at(&cells[..], a) {
+    let known = known_at(&cells[..], a);
+    if known.value != 0 {
         return verdict(known, target, cube.values, kept);
     }
     if loose == 0 {
@@ -154,7 +156,7 @@ fn settle(
 fn push(
     net: &[u64],
     a: usize,
-    target: bool,
+    target: u8,
     loose: u64,
     cube: Cube64,
     cells: &mut [u64],
@@ -164,9 +166,9 @@ fn push(
     kept: Counts,
 ) -> Outcome
     requires loose_nonzero { 0 < loose }
-    requires posed { Posed net.now a (number target) loose cube.mask cube.values cells.old }
+    requires posed { Posed net.now a target loose cube.mask cube.values cells.old }
     requires lent { Lent net.now wants.old under.old kept.under over.old kept.over }
-    ensures solved { Solved net.now a (number target) loose cube.values result.found result.word result.reason × (cells.new ≡ cells.old) }
+    ensures solved { Solved net.now a target loose cube.values result.found result.word result.reason × (cells.new ≡ cells.old) }
     ensures growing { Growing net.now under.old kept.under over.old kept.over under.new result.kept.under over.new result.kept.over }
 {
     let mut whys = [0u64; 64];
@@ -206,7 +208,7 @@ fn push(
 fn branch(
     net: &[u64],
     a: usize,
-    target: bool,
+    target: u8,
     loose: u64,
     cube: Cube64,
     cells: &mut [u64],
@@ -216,9 +218,9 @@ fn branch(
     kept: Counts,
 ) -> Outcome
     requires loose_nonzero { 0 < loose }
-    requires posed { Posed net.now a (number target) loose cube.mask cube.values cells.old }
+    requires posed { Posed net.now a target loose cube.mask cube.values cells.old }
     requires lent { Lent net.now wants.old under.old kept.under over.old kept.over }
-    ensures solved { Solved net.now a (number target) loose cube.values result.found result.word result.reason × (cells.new ≡ cells.old) }
+    ensures solved { Solved net.now a target loose cube.values result.found result.word result.reason × (cells.new ≡ cells.old) }
     ensures growing { Growing net.now under.old kept.under over.old kept.over under.new result.kept.under over.new result.kept.over }
 {
     let x = loose.highest();
@@ -252,12 +254,12 @@ fn branch(
     }
 }
 
-// What a search finds where the node's truth is known.
-fn verdict(known: Known, target: bool, word: u64, kept: Counts) -> Outcome
-    ensures { (result.found ≡ true → number known.truth ≡ number target) × (result.found ≡ false → number known.truth ≡ number target → ⊥) × (result.word ≡ word) × (result.reason ≡ known.reason) × (result.kept ≡ kept) }
+// What a search finds where the node's value is known.
+fn verdict(known: Known, target: u8, word: u64, kept: Counts) -> Outcome
+    ensures { (result.found ≡ true → known.value ≡ target) × (result.found ≡ false → known.value ≡ target → ⊥) × (result.word ≡ word) × (result.reason ≡ known.reason) × (result.kept ≡ kept) }
 {
     Outcome {
-        found: known.truth == target,
+        found: known.value == target,
         word,
         reason: known.reason,
         kept,
@@ -269,7 +271,7 @@ fn verdict(known: Known, target: bool, word: u64, kept: Counts) -> Outcome
 fn candidate(
     net: &[u64],
     a: usize,
-    target: bool,
+    target: u8,
     cube: Cube64,
     cells: &mut [u64],
     wants: &mut [u64],
@@ -277,9 +279,9 @@ fn candidate(
     over: &mut [u32],
     kept: Counts,
 ) -> Outcome
-    requires posed { Posed net.now a (number target) 0 cube.mask cube.values cells.old }
+    requires posed { Posed net.now a target 0 cube.mask cube.values cells.old }
     requires lent { Lent net.now wants.old under.old kept.under over.old kept.over }
-    ensures solved { Solved net.now a (number target) 0 cube.values result.found result.word result.reason × (cells.new ≡ cells.old) }
+    ensures solved { Solved net.now a target 0 cube.values result.found result.word result.reason × (cells.new ≡ cells.old) }
     ensures growing { Growing net.now under.old kept.under over.old kept.over under.new result.kept.under over.new result.kept.over }
 {
     let c = check(net, a, cube, cells, wants, cells::END, under, over, kept);
@@ -303,10 +305,11 @@ fn check(
 ) -> Valued
     requires i_bound { (i < frames_of net.now + 2) × Checked net.now i cube.mask cube.values cells.old }
     requires lent { Lent net.now wants.old under.old kept.under over.old kept.over }
-    ensures told { Told net.now cube.mask cube.values i (number result.known.truth) result.known.reason × Judging net.now cube.mask cube.values cells.old head cells.new result.head }
+    ensures told { Told net.now cube.mask cube.values i result.known.value result.known.reason × Judging net.now cube.mask cube.values cells.old head cells.new result.head }
     ensures growing { Growing net.now under.old kept.under over.old kept.over under.new result.kept.under over.new result.kept.over }
 {
-    if let Some(known) = known_at(&cells[..], i) {
+    let known = known_at(&cells[..], i);
+    if known.value != 0 {
         return Valued { known, head, kept };
     }
     let c = evaluate(net, i, cube, cells, wants, head, under, over, kept);
@@ -317,26 +320,33 @@ fn check(
 // A variable under a full candidate.
 fn input(values: u64, v: u8) -> Known
     requires { v < 64 }
-    ensures { (val (number result.truth) ≡ bit values v) × (result.reason ≡ 2 ^ v) }
+    ensures { (val result.value ≡ bit values v) × (result.reason ≡ 2 ^ v) × (0 < result.value) × (result.value < 3) }
 {
+    let only = u64::one(v);
+    if values.has(v) {
+        return Known {
+            value: 2,
+            reason: only,
+        };
+    }
     Known {
-        truth: values.has(v),
-        reason: u64::one(v),
+        value: 1,
+        reason: only,
     }
 }
 
 // A constant, or an input under a full candidate.
 fn leaf(op: Op, left: usize, cube: Cube64) -> Known
     requires { (code_of op < 3) × (code_of op ≡ 2 → left < 64) }
-    ensures { Leaf (code_of op) left cube.values (number result.truth) result.reason }
+    ensures { Leaf (code_of op) left cube.values result.value result.reason }
 {
     match op {
         Op::False => Known {
-            truth: false,
+            value: 1,
             reason: 0,
         },
         Op::True => Known {
-            truth: true,
+            value: 2,
             reason: 0,
         },
         _ => input(cube.values, forward::variable(left)),
@@ -358,7 +368,7 @@ fn evaluate(
 ) -> Valued
     requires i_bound { (i < frames_of net.now + 2) × Checked net.now i cube.mask cube.values cells.old }
     requires lent { Lent net.now wants.old under.old kept.under over.old kept.over }
-    ensures told { Told net.now cube.mask cube.values i (number result.known.truth) result.known.reason × Judging net.now cube.mask cube.values cells.old head cells.new result.head }
+    ensures told { Told net.now cube.mask cube.values i result.known.value result.known.reason × Judging net.now cube.mask cube.values cells.old head cells.new result.head }
     ensures growing { Growing net.now under.old kept.under over.old kept.over under.new result.kept.under over.new result.kept.over }
 {
     let node = node_at(net, i);
@@ -370,30 +380,24 @@ fn evaluate(
         Op::Not => {
             let c = check(net, node.left, cube, cells, wants, head, under, over, kept);
             let known = Known {
-                truth: !c.known.truth,
+                value: 3 - c.known.value,
                 ..c.known
             };
             Valued { known, ..c }
         }
-        Op::And => gate(
-            net, i, node, false, cube, cells, wants, head, under, over, kept,
-        ),
-        Op::Or => gate(
-            net, i, node, true, cube, cells, wants, head, under, over, kept,
-        ),
+        Op::And | Op::Or => gate(net, i, node, cube, cells, wants, head, under, over, kept),
         Op::Exists | Op::Forall => {
             quantified(net, i, node, cube, cells, wants, head, under, over, kept)
         }
     }
 }
 
-// The truth of a gate that d decides: an AND by false, an OR by true.
+// The value of a gate. AND is decided by 1, OR by 2.
 #[cycle(branch_candidate_check_choose_evaluate_extend_gate_push_quantified_settle)]
 fn gate(
     net: &[u64],
     i: usize,
     node: Node,
-    d: bool,
     cube: Cube64,
     cells: &mut [u64],
     wants: &mut [u64],
@@ -402,20 +406,21 @@ fn gate(
     over: &mut [u32],
     kept: Counts,
 ) -> Valued
-    requires is { Is net.now i (code_of node.op) node.left node.right node.mask × (4 ≤ code_of node.op) × (code_of node.op < 6) × (number d ≡ code_of node.op - 3) }
+    requires is { Is net.now i (code_of node.op) node.left node.right node.mask × (4 ≤ code_of node.op) × (code_of node.op < 6) }
     requires i_bound { (i < frames_of net.now + 2) × Checked net.now i cube.mask cube.values cells.old }
     requires lent { Lent net.now wants.old under.old kept.under over.old kept.over }
-    ensures told { Told net.now cube.mask cube.values i (number result.known.truth) result.known.reason × Judging net.now cube.mask cube.values cells.old head cells.new result.head }
+    ensures told { Told net.now cube.mask cube.values i result.known.value result.known.reason × Judging net.now cube.mask cube.values cells.old head cells.new result.head }
     ensures growing { Growing net.now under.old kept.under over.old kept.over under.new result.kept.under over.new result.kept.over }
 {
+    let d = gate_decided(node.op);
     let c = check(net, node.left, cube, cells, wants, head, under, over, kept);
-    if c.known.truth == d {
+    if c.known.value == d {
         return c;
     }
     let e = check(
         net, node.right, cube, cells, wants, c.head, under, over, c.kept,
     );
-    if e.known.truth == d {
+    if e.known.value == d {
         return e;
     }
     let known = Known {
@@ -443,15 +448,19 @@ fn quantified(
     requires is { Is net.now i (code_of node.op) node.left node.right node.mask × (6 ≤ code_of node.op) }
     requires i_bound { (i < frames_of net.now + 2) × Checked net.now i cube.mask cube.values cells.old }
     requires lent { Lent net.now wants.old under.old kept.under over.old kept.over }
-    ensures told { Told net.now cube.mask cube.values i (number result.known.truth) result.known.reason × Judging net.now cube.mask cube.values cells.old head cells.new result.head }
+    ensures told { Told net.now cube.mask cube.values i result.known.value result.known.reason × Judging net.now cube.mask cube.values cells.old head cells.new result.head }
     ensures growing { Growing net.now under.old kept.under over.old kept.over under.new result.kept.under over.new result.kept.over }
-    ensures noted { i < frames_of net.now → changed net.now i ≡ false → Noted (net_form net.now) i (number result.known.truth) cube.values under.new result.kept.under over.new result.kept.over }
+    ensures noted { i < frames_of net.now → changed net.now i ≡ false → Noted (net_form net.now) i result.known.value cube.values under.new result.kept.under over.new result.kept.over }
 {
-    if let Some(known) = recorded(net, i, cube.values, &under[..], &over[..], kept) {
+    let known = recorded(net, i, cube.values, &under[..], &over[..], kept);
+    if known.value != 0 {
         return Valued { known, head, kept };
     }
-    let s = choose(net, i, node, cube, 0, cells, wants, under, over, kept);
-    let shown = body_shows(node, s.found, s.reason);
+    let d = decided(node.op);
+    let s = choose(
+        net, i, node.left, d, node.mask, cube, 0, cells, wants, under, over, kept,
+    );
+    let shown = body_shows(d, node.mask, s.found, s.reason);
     let after = note(net, i, shown, cube.values, under, over, s.kept);
     Valued {
         known: shown,

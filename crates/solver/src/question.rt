@@ -11,6 +11,7 @@ use cube::Cube64;
 use form::Form;
 use judge::forward::ALL;
 use judge::{cells, forward};
+use net::node::decided;
 use records::Counts;
 use search::Outcome;
 
@@ -88,7 +89,9 @@ fn solve_in(
     let out = search::choose(
         &net[..],
         own,
-        node,
+        node.left,
+        decided(node.op),
+        node.mask,
         cube,
         0,
         cells,

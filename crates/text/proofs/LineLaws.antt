@@ -1,13 +1,13 @@
 -- What reading lines comes to, step by step, for lines of any number of bytes: the laws that the code goes by. Assumes nothing.
 use Prim.Native.Nat.{ℕ, zero, suc, ◌+◌, ◌-◌, ◌*◌, ◌≤◌, ◌<◌}
 use native.Mathlib.Omega.{arith}
-use Rattle.std.proofs.Common.{add-one, zero-add, suc-add, zero-mul, suc-mul, ap, ◌∙◌, length-append, drop-drop}
+use Rattle.std.proofs.Common.{add-zero, add-one, zero-add, suc-add, zero-mul, suc-mul, ap, ◌∙◌, length-append, get_or-drop, drop-drop}
 use Rattle.std.specs.List.{list_all}
 use Rattle.std.specs.Option.{IsSome}
-use Rattle.std.specs.Prelude.{Option, Some, None, unwrap_or, Bool, true, false, ◌&&◌, List, [], ◌∷◌, ◌≡◌, eqb, length, set, take, drop}
+use Rattle.std.specs.Prelude.{Option, Some, None, unwrap_or, Bool, true, false, ◌&&◌, List, [], ◌∷◌, ◌≡◌, eqb, length, get_or, set, take, drop}
 use Rattle.std.proofs.Math.Path.{refl, sym}
 use Rattle.std.proofs.Math.Dec.{ltb}
-use Rattle.std.proofs.Math.ListN.{length-drop}
+use Rattle.std.proofs.Math.ListN.{length-drop, get_or-eq_default}
 use Rattle.std.proofs.lemmas.List.Edits.{sets}
 use borrow.Author.Tests.{ltb-true, ltb-false, lt-ltb, le-ltb, ne_eqb}
 use Rattle.words.proofs.Logic.{by_bool, and_both}
@@ -15,6 +15,16 @@ use Rattle.words.proofs.Stores.{sets_append}
 use Rattle.text.specs.Hex.{digit_value, is_digit, line_feed, carriage_return}
 use Rattle.text.proofs.HexLaws.{value-below}
 use Rattle.text.specs.Line.{head, ending, digits, line_size, byte_here, bytes, TwoDigits, Lines, no_lines, line_then, lines}
+
+pub head-drop : (at : ℕ) (l : List ℕ) → head (drop at l) ≡ get_or l at 0
+head-drop at l = get_or-drop at l 0 0 ∙ ap (λ (k : ℕ). get_or l k 0) (add-zero at)
+
+-- a byte other than 0 stands within the text
+pub head-within : (at : ℕ) (l : List ℕ) → 0 < head (drop at l) → at < length l
+head-within at l h =
+    by_bool (ltb at (length l)) (ltb-true at (length l))
+    (λ f. let z : head (drop at l) ≡ 0 = head-drop at l ∙ get_or-eq_default l 0 (ltb-false at (length l) f) in
+    absurd (omega arith))
 
 -- ---- digits
 
@@ -191,6 +201,10 @@ module _ (w : ℕ) where
       by_bool (ltb 0 (line_size w l)) (ltb-true 0 (line_size w l))
       (λ f. let z : line_size w l ≡ 0 = omega (arith, ltb-false 0 (line_size w l) f) in
       let c : (lines w (suc n) l).count ≡ 0 = ap (λ (k : Lines). k.count) (lines_stop n l z) in absurd (omega arith))
+
+  -- its digits lie within the text
+  pub line-digits : (l : List ℕ) → 0 < line_size w l → 2 * w ≤ length l
+  line-digits l h = digits-within (2 * w) l (size_shape w l h).0
 
   -- behind it stand the others; its frame is stored, and then theirs
   module _ (l : List ℕ) (size : ℕ) (e : size ≡ line_size w l) (n : ℕ) (all : (lines w (suc n) l).count ≡ suc n) where

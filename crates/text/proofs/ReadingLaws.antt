@@ -21,6 +21,11 @@ use Rattle.text.specs.ReadingLaws.{Framed, narrow_alone}
 
 -- ---- the two forms
 
+-- the bytes of a line, as the code asks for them
+pub few_bytes : (F : Form) → frame_bytes F ≤ 16
+few_bytes Narrow = omega arith
+few_bytes Wide = omega arith
+
 -- a line has some bytes
 pub some_bytes : (F : Form) → 0 < frame_bytes F
 some_bytes Narrow = omega arith

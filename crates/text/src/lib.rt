@@ -33,6 +33,11 @@ pub const SHEET_BYTES: usize = 21000;
 
 pub const SCRIPT_BYTES: usize = layout::SCRIPT_FRAMES * layout::SCRIPT_FRAME_BYTES;
 
+// The bytes of an answer's line in either form: two digits for each of its bytes (`form::answer_bytes`), and the line's end.
+pub const LINE_BYTES: usize = 2 * 6 + 1;
+
+pub const WIDE_LINE_BYTES: usize = 2 * 10 + 1;
+
 // Reads a text into the two buffers. Nothing is written before all of the text is known to be right.
 pub fn read(text: &[u8], sheet: &mut [u8], script: &mut [u8]) -> Result<Parsed, Unread>
     ensures { Read text.now sheet.old script.old result sheet.new script.new }

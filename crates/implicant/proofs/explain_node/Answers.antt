@@ -2,7 +2,7 @@
 use native.Mathlib.Omega.{arith}
 use mathlib.Core.Path.{ap}
 use Rattle.net.specs.Layout.{reads-low, names-below, joins-right}
-use Rattle.net.specs.Op.{code_of, code_leaf, code_binds}
+use Rattle.net.specs.Op.{code_of, code_leaf, code_gate, code_binds}
 use Rattle.judge.specs.JudgeLaws.{right_leaf, right-not, right-gate, right-binds}
 use Rattle.implicant.specs.ImplicantLaws.{shows_at}
 use Rattle.implicant.proofs.explain_node.Goals as goal
@@ -24,41 +24,27 @@ pub returns-in-Not : goal.returns-in-Not
 returns-in-Not c =
     right-not c.requires.0 c.node_at-node.ensures.is (ap code_of c.in-Not.is) (shows_at c.requires.2 (names-below c.requires.0 c.node_at-node.ensures.is (omega (arith, ap code_of c.in-Not.is))) c.known_at.ensures.0 c.known_at.ensures.1) c.negated.ensures
 
+pub gate_decided-requires : goal.gate_decided-requires
+gate_decided-requires c =
+    code_gate c.in-And.is
+
 pub known_at-requires-in-And : goal.known_at-requires-in-And
 known_at-requires-in-And c =
-    let n = ap code_of c.in-And.is in
-    omega (arith, names-below c.requires.0 c.node_at-node.ensures.is (omega (arith, n)), c.requires.1, c.requires.2.long)
+    let g = code_gate c.in-And.is in
+    omega (arith, names-below c.requires.0 c.node_at-node.ensures.is (omega (arith, g.0)), c.requires.1, c.requires.2.long)
 
 pub known_at-requires-in-And-2 : goal.known_at-requires-in-And-2
 known_at-requires-in-And-2 c =
-    let n = ap code_of c.in-And.is in
-    omega (arith, joins-right c.requires.0 c.node_at-node.ensures.is (omega (arith, n)) (omega (arith, n)), c.requires.1, c.requires.2.long)
+    let g = code_gate c.in-And.is in
+    omega (arith, joins-right c.requires.0 c.node_at-node.ensures.is g.0 g.1, c.requires.1, c.requires.2.long)
 
 pub returns-in-And : goal.returns-in-And
 returns-in-And c =
-    let n = ap code_of c.in-And.is in
-    right-gate c.requires.0 c.node_at-node.ensures.is (omega (arith, n)) (omega (arith, n)) (omega (arith, n))
-    (shows_at c.requires.2 (names-below c.requires.0 c.node_at-node.ensures.is (omega (arith, n))) c.known_at-in-And.ensures.0 c.known_at-in-And.ensures.1)
-    (shows_at c.requires.2 (joins-right c.requires.0 c.node_at-node.ensures.is (omega (arith, n)) (omega (arith, n))) c.known_at-in-And-2.ensures.0 c.known_at-in-And-2.ensures.1)
+    let g = code_gate c.in-And.is in
+    right-gate c.requires.0 c.node_at-node.ensures.is g.0 g.1 c.gate_decided.ensures
+    (shows_at c.requires.2 (names-below c.requires.0 c.node_at-node.ensures.is (omega (arith, g.0))) c.known_at-in-And.ensures.0 c.known_at-in-And.ensures.1)
+    (shows_at c.requires.2 (joins-right c.requires.0 c.node_at-node.ensures.is g.0 g.1) c.known_at-in-And-2.ensures.0 c.known_at-in-And-2.ensures.1)
     c.joined.ensures
-
-pub known_at-requires-in-Or : goal.known_at-requires-in-Or
-known_at-requires-in-Or c =
-    let n = ap code_of c.in-Or.is in
-    omega (arith, names-below c.requires.0 c.node_at-node.ensures.is (omega (arith, n)), c.requires.1, c.requires.2.long)
-
-pub known_at-requires-in-Or-2 : goal.known_at-requires-in-Or-2
-known_at-requires-in-Or-2 c =
-    let n = ap code_of c.in-Or.is in
-    omega (arith, joins-right c.requires.0 c.node_at-node.ensures.is (omega (arith, n)) (omega (arith, n)), c.requires.1, c.requires.2.long)
-
-pub returns-in-Or : goal.returns-in-Or
-returns-in-Or c =
-    let n = ap code_of c.in-Or.is in
-    right-gate c.requires.0 c.node_at-node.ensures.is (omega (arith, n)) (omega (arith, n)) (omega (arith, n))
-    (shows_at c.requires.2 (names-below c.requires.0 c.node_at-node.ensures.is (omega (arith, n))) c.known_at-in-Or.ensures.0 c.known_at-in-Or.ensures.1)
-    (shows_at c.requires.2 (joins-right c.requires.0 c.node_at-node.ensures.is (omega (arith, n)) (omega (arith, n))) c.known_at-in-Or-2.ensures.0 c.known_at-in-Or-2.ensures.1)
-    c.joined-in-Or.ensures
 
 pub known_at-requires-in-Exists : goal.known_at-requires-in-Exists
 known_at-requires-in-Exists c =

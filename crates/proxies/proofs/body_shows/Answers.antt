@@ -1,14 +1,18 @@
 -- `proxies::body_shows` meets its contract. Assumes nothing.
-use mathlib.Core.Path.{refl, ◌∙◌, ap}
-use Prim.Native.Nat.{ℕ, ◌-◌}
+use native.Mathlib.Omega.{arith}
+use mathlib.Core.Path.{refl}
 use Rattle.words.proofs.Logic.{clash}
-use Rattle.net.specs.Layout.{number-some, number-low, number-not}
+use Rattle.net.specs.Layout.{decides-some, decides-low}
 use Rattle.proxies.proofs.body_shows.Goals as goal
 
 pub returns-then-found : goal.returns-then-found
-returns-then-found c =
-    record { some = number-some _; low = number-low _; met = λ e. (c.decided-d.ensures, c.without.ensures); missed = λ e. clash _ c.if-found.true e }
+returns-then-found c op e =
+    record { some = rw e (decides-some op); low = rw e (decides-low op); met = λ h. (e, c.without.ensures); missed = λ h. clash _ c.if-found.true h }
+
+pub returns-then-d-eq2 : goal.returns-then-d-eq2
+returns-then-d-eq2 c op e =
+    record { some = omega arith; low = omega arith; met = λ h. clash _ h c.if-found.false; missed = λ h. (omega (arith, e, c.if-d-eq2.true), refl) }
 
 pub returns : goal.returns
-returns c =
-    record { some = number-some _; low = number-low _; met = λ e. clash _ e c.if-found.false; missed = λ e. (number-not _ ∙ ap (λ (y : ℕ). 3 - y) c.decided-d.ensures, refl) }
+returns c op e =
+    record { some = omega arith; low = omega arith; met = λ h. clash _ h c.if-found.false; missed = λ h. (omega (arith, e, c.if-d-eq2.false, decides-some op, decides-low op), refl) }

@@ -2,28 +2,28 @@
 use mathlib.Core.Bool.{not}
 use mathlib.Core.Path.{sym, ap, ◌∙◌}
 use Rattle.dimacs.proofs.TokenLaws.{tokens-taken, tokens_none}
-use Rattle.dimacs.proofs.RowSteps.{same-row, other-row, proper-none, proper-other_row, proper-zero, proper-next, proper-fails}
+use Rattle.dimacs.proofs.RowSteps.{proper-none, proper-other_row, proper-zero, proper-next, proper-fails}
 use Rattle.dimacs.proofs.atoms.proper_atoms.Goals as goal
 
 pub returns-then-not-proper_atom : goal.returns-then-not-proper_atom
 returns-then-not-proper_atom c =
     let s = tokens-taken c.next-taken.ensures in
-    sym (c.loop-at.invariant.1 ∙ proper-fails s c.row_after-row.ensures (same-row _ _ c.if-eq.ensures) c.number_of-v.ensures c.if-v-ne0.true c.proper_atom.ensures (ap not c.if-not-proper_atom.true))
+    sym (c.loop-at.invariant.1 ∙ proper-fails s c.row_after-row.ensures c.if-before-eq-BLOCK.true c.number_of-v.ensures c.if-v-ne0.true c.proper_atom.ensures (ap not c.if-not-proper_atom.true))
 
 pub loop-at-preserved-else-not-proper_atom : goal.loop-at-preserved-else-not-proper_atom
 loop-at-preserved-else-not-proper_atom c =
     let s = tokens-taken c.next-taken.ensures in
-    (c.next-taken.ensures.within, c.loop-at.invariant.1 ∙ proper-next s c.row_after-row.ensures (same-row _ _ c.if-eq.ensures) c.number_of-v.ensures c.if-v-ne0.true c.proper_atom.ensures (ap not c.if-not-proper_atom.false))
+    (c.next-taken.ensures.within, c.loop-at.invariant.1 ∙ proper-next s c.row_after-row.ensures c.if-before-eq-BLOCK.true c.number_of-v.ensures c.if-v-ne0.true c.proper_atom.ensures (ap not c.if-not-proper_atom.false))
 
 pub loop-at-preserved-else-v-ne0 : goal.loop-at-preserved-else-v-ne0
 loop-at-preserved-else-v-ne0 c =
     let s = tokens-taken c.next-taken.ensures in
-    (c.next-taken.ensures.within, c.loop-at.invariant.1 ∙ proper-zero s c.row_after-row.ensures (same-row _ _ c.if-eq.ensures) c.number_of-v.ensures c.if-v-ne0.false)
+    (c.next-taken.ensures.within, c.loop-at.invariant.1 ∙ proper-zero s c.row_after-row.ensures c.if-before-eq-BLOCK.true c.number_of-v.ensures c.if-v-ne0.false)
 
 pub loop-at-preserved : goal.loop-at-preserved
 loop-at-preserved c =
     let s = tokens-taken c.next-taken.ensures in
-    (c.next-taken.ensures.within, c.loop-at.invariant.1 ∙ proper-other_row s c.row_after-row.ensures (other-row _ _ c.if-eq.ensures))
+    (c.next-taken.ensures.within, c.loop-at.invariant.1 ∙ proper-other_row s c.row_after-row.ensures c.if-before-eq-BLOCK.false)
 
 pub returns : goal.returns
 returns c =

@@ -1,11 +1,20 @@
--- `lanes::fill::next` meets its contract: a truth that is known, or the row that follows from those before. Assumes nothing.
+-- `lanes::fill::next` meets its contract: a value that is known, or the row that follows from those before. Assumes nothing.
+use native.Mathlib.Omega.{arith}
+use mathlib.Core.Path.{sym, ◌∙◌}
+use Rattle.net.specs.Layout.{val}
 use Rattle.lanes.proofs.FillLaws.{added, row_known}
 use Rattle.lanes.proofs.fill.next.Goals as goal
-use Rattle.lanes.proofs.fill.next.Goals.{in-Some, in-None}
+
+pub returns-then-known-ne0 : goal.returns-then-known-ne0
+unfolding val
+returns-then-known-ne0 c =
+    added c.keep.ensures c.requires.2
+    (row_known c.args.k c.requires.3 c.known_at-known.ensures.0 c.known_at-known.ensures.1 (omega (arith, c.if-known-ne0.true)) c.constant-row.ensures)
+
+pub row_of-row-requires : goal.row_of-row-requires
+row_of-row-requires c =
+    (c.requires.0, c.requires.1, c.requires.2, c.requires.4 (sym c.known_at-known.ensures.0 ∙ c.if-known-ne0.false))
 
 pub returns : goal.returns
 returns c =
-    added c.keep.ensures c.requires.2 (elim c.match-known_at.branch [
-      | in-Some w ↦ rw w.row-is (let k = rw w.in-Some.is at c.known_at.ensures in row_known c.requires.3 _ k.0 k.1 w.constant-row.ensures)
-      | in-None w ↦ rw w.row-is w.row_of-row.ensures
-    ])
+    added c.keep-2.ensures c.requires.2 c.row_of-row.ensures

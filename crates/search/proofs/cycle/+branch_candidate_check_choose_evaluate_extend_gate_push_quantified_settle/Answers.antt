@@ -2,8 +2,8 @@
 -- Assumes nothing.
 use Rattle.std.proofs.Common.{refl, sym, ap, ◌∙◌, arith}
 use Rattle.words.proofs.Mask.{top_bit, top_less}
-use Rattle.net.specs.Op.{code_of, code_leaf, code_binds}
-use Rattle.net.specs.Layout.{number-some, number-not, number-is, number_other, reads-low, flips_below, joins-left, joins-right, binds-below}
+use Rattle.net.specs.Op.{code_of, code_leaf, code_gate, code_binds}
+use Rattle.net.specs.Layout.{decides-some, reads-low, flips_below, joins-left, joins-right, binds-below}
 use Rattle.judge.specs.JudgeLaws.{judged-at, judging_none, judging_then}
 use Rattle.judge.specs.CellLaws.{trail_none}
 use Rattle.proxies.proofs.Growing.{growing_same, growing_then}
@@ -101,8 +101,8 @@ pub choose-extend-out-requires : goal.choose-extend-out-requires
 choose-extend-out-requires t c =
     let checked = c.requires.checked in
     let here = c.requires.is in (
-      body_less c.decreases (binds-below checked.grounded here.0 here.1) (omega (arith, c.ranges)),
-      (posed_body checked here.0 here.1 c.decided-d.ensures c.free_all-inner.ensures.mask c.free_all-inner.ensures.values, c.requires.lent),
+      body_less c.decreases (binds-below checked.grounded here.2 here.3) (omega (arith, c.ranges)),
+      (posed_body checked here.2 here.3 here.4 c.free_all-inner.ensures.mask c.free_all-inner.ensures.values, c.requires.lent),
     )
 
 pub choose-implicant-why-requires : goal.choose-implicant-why-requires
@@ -110,8 +110,9 @@ choose-implicant-why-requires t c =
     let checked = c.requires.checked in
     let here = c.requires.is in (
       checked.grounded,
-      omega (arith, checked.grounded.room, checked.here, binds-below checked.grounded here.0 here.1),
+      omega (arith, checked.grounded.room, checked.here, binds-below checked.grounded here.2 here.3),
       omega (arith, c.requires.lent.long, c.extend-out.auto.wants),
+      rw here.4 (decides-some _),
     )
 
 -- ---- evaluate
@@ -136,21 +137,12 @@ evaluate-check-c-requires t c =
 pub evaluate-returns-in-Not-clause-told : goal.evaluate-returns-in-Not-clause-told
 evaluate-returns-in-Not-clause-told t c =
     let told = c.check-c.ensures.told in
-    (rw (number-not c.check-c.result.known.truth) (told_flip c.requires.i_bound.1 c.node_at-node.ensures.is (ap code_of c.in-Not.is) told.0), told.1)
+    (told_flip c.requires.i_bound.1 c.node_at-node.ensures.is (ap code_of c.in-Not.is) told.0, told.1)
 
 pub evaluate-gate-requires : goal.evaluate-gate-requires
 evaluate-gate-requires t c =
-    let and = ap code_of c.in-And.is in (
-      omega (arith, c.decreases),
-      ((c.node_at-node.ensures.is, omega (arith, and), omega (arith, and), omega (arith, and)), (c.requires.i_bound, c.requires.lent)),
-    )
-
-pub evaluate-gate-requires-in-Or : goal.evaluate-gate-requires-in-Or
-evaluate-gate-requires-in-Or t c =
-    let or = ap code_of c.in-Or.is in (
-      omega (arith, c.decreases),
-      ((c.node_at-node.ensures.is, omega (arith, or), omega (arith, or), omega (arith, or)), (c.requires.i_bound, c.requires.lent)),
-    )
+    let g = code_gate c.in-And.is in
+    (omega (arith, c.decreases), ((c.node_at-node.ensures.is, g.0, g.1), (c.requires.i_bound, c.requires.lent)))
 
 pub evaluate-quantified-requires : goal.evaluate-quantified-requires
 evaluate-quantified-requires t c =
@@ -180,7 +172,7 @@ pub gate-returns-then-c-d-clause-told : goal.gate-returns-then-c-d-clause-told
 gate-returns-then-c-d-clause-told t c =
     let here = c.requires.is in
     let left = c.check-c.ensures.told in
-    (told-left c.requires.i_bound.1 here.0 here.1 here.2 here.3 left.0 (number-is _ _ c.if-c-d.true), left.1)
+    (told-left c.requires.i_bound.1 here.0 here.1 here.2 c.gate_decided-d.ensures left.0 c.if-c-d.true, left.1)
 
 pub gate-check-e-requires : goal.gate-check-e-requires
 gate-check-e-requires t c =
@@ -199,7 +191,7 @@ gate-returns-then-e-d-clause-told t c =
     let here = c.requires.is in
     let left = c.check-c.ensures.told in
     let right = c.check-e.ensures.told in
-    (told-right c.requires.i_bound.1 here.0 here.1 here.2 here.3 right.0 (number-is _ _ c.if-e-d.true), judging_then left.1 right.1)
+    (told-right c.requires.i_bound.1 here.0 here.1 here.2 c.gate_decided-d.ensures right.0 c.if-e-d.true, judging_then left.1 right.1)
 
 pub gate-returns-then-e-d-clause-growing : goal.gate-returns-then-e-d-clause-growing
 gate-returns-then-e-d-clause-growing t c = growing_then c.check-c.ensures.growing c.check-e.ensures.growing
@@ -209,7 +201,7 @@ gate-returns-clause-told t c =
     let here = c.requires.is in
     let left = c.check-c.ensures.told in
     let right = c.check-e.ensures.told in
-    (told-both c.requires.i_bound.1 here.0 here.1 here.2 here.3 left.0 (number_other _ _ c.if-c-d.false) right.0 (number_other _ _ c.if-e-d.false), judging_then left.1 right.1)
+    (told-both c.requires.i_bound.1 here.0 here.1 here.2 c.gate_decided-d.ensures left.0 c.if-c-d.false right.0 c.if-e-d.false, judging_then left.1 right.1)
 
 pub gate-returns-clause-growing : goal.gate-returns-clause-growing
 gate-returns-clause-growing t c = growing_then c.check-c.ensures.growing c.check-e.ensures.growing
@@ -239,18 +231,23 @@ push-returns-clause-solved t c =
 
 -- ---- quantified
 
-pub quantified-returns-in-Some-clause-told : goal.quantified-returns-in-Some-clause-told
-quantified-returns-in-Some-clause-told t c =
+pub quantified-returns-then-known-ne0-clause-told : goal.quantified-returns-then-known-ne0-clause-told
+quantified-returns-then-known-ne0-clause-told t c =
     let checked = c.requires.i_bound.1 in
     let lent = c.requires.lent in
-    ((recorded_told checked.grounded lent.faithful lent.tables checked.covers (number-some _) (rw c.in-Some.is at c.recorded.ensures)).0, judging_none checked.judged)
+    ((recorded_told checked.grounded lent.faithful lent.tables checked.covers (omega (arith, c.if-known-ne0.true)) c.recorded-known.ensures).0, judging_none checked.judged)
+
+pub quantified-choose-s-requires : goal.quantified-choose-s-requires
+quantified-choose-s-requires t c =
+    let here = c.requires.is in
+    (omega (arith, c.decreases), ((_, _, here.0, here.1, c.decided-d.ensures), (c.requires.i_bound.1, c.requires.lent)))
 
 pub quantified-returns : goal.quantified-returns
 quantified-returns t c =
     let checked = c.requires.i_bound.1 in
     let here = c.requires.is in
     let body = c.choose-s.ensures in
-    let told = told-shown checked here.0 here.1 _ _ body.solved.0 c.body_shows-shown.ensures in
+    let told = told-shown checked here.0 here.1 _ _ (rw c.decided-d.ensures at body.solved.0) (c.body_shows-shown.ensures _ c.decided-d.ensures) in
     let noted = c.note-after.ensures told.forced.explains in
     record {
       told = (told, rw body.solved.1 (judging_none checked.judged));
@@ -260,9 +257,9 @@ quantified-returns t c =
 
 -- ---- settle
 
-pub settle-returns-in-Some : goal.settle-returns-in-Some
-settle-returns-in-Some t c =
+pub settle-returns-then-known-ne0 : goal.settle-returns-then-known-ne0
+settle-returns-then-known-ne0 t c =
     let posed = c.requires.posed in
-    let known = rw c.in-Some.is at c.known_at.ensures in
+    let known = c.known_at-known.ensures in
     let s = c.verdict.ensures in
-    rw (s.2, s.3, s.4) (record { solved = (known_solved posed _ (number-some _) (judged-at posed.judged known.0 known.1) s.0 s.1, refl); growing = growing_same })
+    rw (s.2, s.3, s.4) (record { solved = (known_solved posed _ (omega (arith, c.if-known-ne0.true)) (judged-at posed.judged known.0 known.1) s.0 s.1, refl); growing = growing_same })

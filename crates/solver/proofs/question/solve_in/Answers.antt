@@ -10,7 +10,7 @@ judge-requires c =
 pub choose-out-requires : goal.choose-out-requires
 choose-out-requires c =
     let P = (c.pose-own.ensures c.requires.asking.0 c.requires.asking.1.masks) in record {
-      is = (c.node_at-node.ensures.is, asked_binds c.requires.asking.1 P c.node_at-node.ensures.is);
+      is = (_, _, c.node_at-node.ensures.is, asked_binds c.requires.asking.1 P c.node_at-node.ensures.is, c.decided.ensures);
       checked = asked_checked c.requires.asking.1 P c.judge.ensures.judged;
       lent = asked-lent c.requires.asking.1 P c.requires.scratch;
     }
@@ -18,7 +18,7 @@ choose-out-requires c =
 pub returns : goal.returns
 returns c =
     let P = (c.pose-own.ensures c.requires.asking.0 c.requires.asking.1.masks) in record {
-      settled = asked_solved c.requires.asking.1 P c.node_at-node.ensures.is c.choose-out.result.found c.choose-out.result.word c.choose-out.result.reason c.choose-out.ensures.solved.0;
+      settled = asked_solved c.requires.asking.1 P c.node_at-node.ensures.is c.choose-out.result.found c.choose-out.result.word c.choose-out.result.reason (rw c.decided.ensures at c.choose-out.ensures.solved.0);
       growing = asked_grown c.requires.asking.1 P c.choose-out.ensures.growing;
       net_unchanged = stacked_back P.stacked c.forget.ensures;
     }
